@@ -1,0 +1,2 @@
+pub mod Replicas
+pub mod Machines

@@ -1,0 +1,22 @@
+// A system written out flat: each question is answered by one read.
+ghost use Prim.Native.Nat.{ℕ, _<_, _≤_};
+ghost use Rattle.systems.specs.Flat.{StepsLawful};
+use crate::system::Role;
+
+mod answers;
+mod writing_out;
+
+pub use answers::ChartSystem;
+
+#[derive(Clone, Copy)]
+pub struct Chart {
+    count: u16,
+    first: u8,
+    roles: [Role; 64],
+    // The step of state s by event e stands at 64 s + e.
+    steps: [Option<u8>; 16384],
+    ghost some: { 1 ≤ count },
+    ghost most: { count ≤ 256 },
+    ghost begins: { first < count },
+    ghost goes: { StepsLawful count roles steps },
+}

@@ -1,0 +1,3 @@
+// Finite state-event systems: what they answer, and how they are made.
+pub mod chart;
+pub mod system;
