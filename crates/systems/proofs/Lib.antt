@@ -1,2 +1,4 @@
 pub mod Replicas
 pub mod Machines
+pub mod Rows
+pub mod TableFirsts

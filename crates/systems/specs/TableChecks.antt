@@ -1,0 +1,57 @@
+-- What each check of a table leaves known of its bytes.
+use mathlib.Core.Path.{_≡_}
+use mathlib.Core.List.{List}
+use mathlib.Core.Logic.{_≢_}
+use Prim.Native.Nat.{ℕ, _+_, _*_, _<_, _≤_}
+use lib.ListN.{length}
+use Rattle.systems.specs.StoredTable.{count-of, first-of, records-of, role-byte, head-of, event-of, target-of, next-of}
+use Rattle.systems.specs.TableFaults.{Numbers, RecordFaulty, record-number, record-place}
+use Rattle.systems.specs.declared.stored_table.fault.RecordFault.{RecordFault}
+use Rattle.systems.specs.declared.stored_table.layout.Record.{Record as Fields}
+
+-- after the header: the bytes are as long as their counts say
+pub record Sized (bs : List ℕ) : Type 0 where
+  pub some : 1 ≤ count-of bs
+  pub most : count-of bs ≤ 256
+  pub begins : first-of bs < count-of bs
+  pub few : records-of bs ≤ 8192
+  pub long : length bs ≡ 70 + 2 * count-of bs + 6 * records-of bs
+
+abbrev pub RolesKnown : List ℕ → Type 0
+RolesKnown bs = (e : ℕ) → e < 64 → role-byte bs e ≤ 3
+
+abbrev pub HeadsKnown : List ℕ → Type 0
+HeadsKnown bs = (s : ℕ) → s < count-of bs → head-of bs s ≤ records-of bs
+
+-- before the records: all else is checked
+pub record Framed (bs : List ℕ) : Type 0 where
+  pub sized : Sized bs
+  pub roles : RolesKnown bs
+  pub heads : HeadsKnown bs
+
+pub record RecordSound (bs : List ℕ) (k : ℕ) : Type 0 where
+  pub event : event-of bs k < 64
+  pub role : role-byte bs (event-of bs k) ≢ 0
+  pub target : target-of bs k < count-of bs
+  pub next : next-of bs k ≤ records-of bs
+  pub rising : 1 ≤ next-of bs k → event-of bs k < event-of bs (next-of bs k)
+
+abbrev pub RecordsSound : List ℕ → ℕ → Type 0
+RecordsSound bs n = (k : ℕ) → 1 ≤ k → k ≤ n → RecordSound bs k
+
+-- after all checks
+pub record Sound (bs : List ℕ) : Type 0 where
+  pub framed : Framed bs
+  pub records : RecordsSound bs (records-of bs)
+
+-- the fields of record k
+pub record FieldsOf (bs : List ℕ) (k : ℕ) (r : Fields) : Type 0 where
+  pub event : r .event ≡ event-of bs k
+  pub target : r .target ≡ target-of bs k
+  pub next : r .next ≡ next-of bs k
+
+-- f is a fault of record k, which has no fault of a lower number
+pub record FirstOfRecord (bs : List ℕ) (k : ℕ) (f : RecordFault) : Type 0 where
+  pub place : record-place f ≡ k
+  pub there : RecordFaulty bs f
+  pub none-before : (g : RecordFault) → record-place g ≡ k → record-number g < record-number f → RecordFaulty bs g → ⊥
