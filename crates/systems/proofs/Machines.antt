@@ -24,7 +24,7 @@ pub none-unless : (o : Option ℕ) → ((t : ℕ) → o ≡ Some t → ⊥) → 
 none-unless None h = refl
 none-unless (Some t) h = absurd (h t refl)
 
-is-present : (r : Role) → (r ≡ Absent → ⊥) → present r ≡ true
+pub is-present : (r : Role) → (r ≡ Absent → ⊥) → present r ≡ true
 is-present Absent h = absurd (h refl)
 is-present Input h = refl
 is-present Output h = refl
@@ -34,12 +34,18 @@ is-present Internal h = refl
 abbrev pub upto : {A : Type 0} → ℕ → (ℕ → A) → A → ℕ → A
 upto n f d e = cond (ltb e n) (f e) d
 
+pub upto-below : {A : Type 0} (n : ℕ) (f : ℕ → A) (d : A) (e : ℕ) → e < n → upto n f d e ≡ f e
+upto-below n f d e h = rw (lt-ltb e n h) refl
+
+pub upto-past : {A : Type 0} (n : ℕ) (f : ℕ → A) (d : A) (e : ℕ) → n ≤ e → upto n f d e ≡ d
+upto-past n f d e h = rw (le-ltb e n h) refl
+
 pub upto-is : {A : Type 0} (n : ℕ) (f g : ℕ → A) (d : A) → ((e : ℕ) → e < n → f e ≡ g e) → ((e : ℕ) → n ≤ e → g e ≡ d)
     → (e : ℕ) → upto n f d e ≡ g e
 upto-is n f g d below past e =
-    elim (cases-lt e n)
-    [ inl h ↦ rw (lt-ltb e n h) (below e h)
-    | inr h ↦ rw (le-ltb e n h) (sym (past e h))
+    elim (cases-lt e n) [
+      | inl h ↦ upto-below n f d e h ∙ below e h
+      | inr h ↦ upto-past n f d e h ∙ sym (past e h)
     ]
 
 module _ (m : Machine) (w : Lawful m) where
@@ -52,8 +58,11 @@ module _ (m : Machine) (w : Lawful m) where
   lawful-at : (s e : ℕ) (r : Role) (o : Option ℕ) → r ≡ m .role e → o ≡ m .step s e → step-lawful (m .count) s r o ≡ true
   lawful-at s e r None p q = refl
   lawful-at s e r (Some t) p q =
-      rw ( lt-ltb s (m .count) (w .state-below s e t (sym q)), lt-ltb t (m .count) (w .next-below s e t (sym q))
-         , is-present r (λ a. w .takes-part s e t (sym q) (sym p ∙ a)) ) refl
+      rw (
+        lt-ltb s (m .count) (w .state-below s e t (sym q)),
+        lt-ltb t (m .count) (w .next-below s e t (sym q)),
+        is-present r (λ a. w .takes-part s e t (sym q) (sym p ∙ a)),
+      ) refl
 
   pub lists-lawful : (roles : List Role) (steps : List (Option ℕ)) → ListsRoles m roles → ListsSteps m steps
       → StepsLawful (m .count) roles steps

@@ -35,15 +35,15 @@ module _ (Right : ℕ → ℕ → Option ℕ → Type 0) where
   pub rows-more : (n : ℕ) (before after : List (Option ℕ)) → RowsDone Right n before
       → ((e : ℕ) → e < 64 → Right n e (getD after (64 * n + e) None)) → KeepsOtherRows n before after → RowsDone Right (n + 1) after
   rows-more n before after d here keeps =
-      record
-      { rows = λ s e h k.
-          elim (cases-lt s n)
-          [ inl l ↦
-              let kept : getD before (64 * s + e) None ≡ getD after (64 * s + e) None = sym (keeps (64 * s + e) (inl (omega arith))) in
-              subst (λ (o : Option ℕ). Right s e o) kept (d .rows s e l k)
-          | inr g ↦
-              let same : n ≡ s = omega arith in
-              subst (λ (m : ℕ). Right m e (getD after (64 * m + e) None)) same (here e k)
-          ]
-      ; rest = λ i h. keeps i (inr (omega arith)) ∙ d .rest i (omega arith)
+      record {
+        rows = λ s e h k.
+            elim (cases-lt s n) [
+              | inl l ↦
+                  let kept : getD before (64 * s + e) None ≡ getD after (64 * s + e) None = sym (keeps (64 * s + e) (inl (omega arith))) in
+                  subst (λ (o : Option ℕ). Right s e o) kept (d .rows s e l k)
+              | inr g ↦
+                  let same : n ≡ s = omega arith in
+                  subst (λ (m : ℕ). Right m e (getD after (64 * m + e) None)) same (here e k)
+            ];
+        rest = λ i h. keeps i (inr (omega arith)) ∙ d .rest i (omega arith);
       }

@@ -97,9 +97,9 @@ first-record bs x k sound f first = record { there = first .there; none-before =
     none g (of-role e) b (l, t) = omega (arith, x .roles e l)
     none g (of-head s) b (l, t) = omega (arith, x .heads s l)
     none g (of-record h) b t =
-        elim (earlier h b)
-        [ inl l ↦ unsound bs h (sound (record-place h) (numbered bs h t .0) l) t
-        | inr (p, l) ↦ first .none-before h p l t
+        elim (earlier h b) [
+          | inl l ↦ unsound bs h (sound (record-place h) (numbered bs h t .0) l) t
+          | inr (p, l) ↦ first .none-before h p l t
         ]
 
 -- sound bytes have no fault

@@ -13,8 +13,8 @@ stage number = min number 12
 -- fault f is looked for before fault g: at an earlier stage, or at a lower place of the same stage, or there under a lower number
 abbrev pub Before : {F : Type 0} → (F → ℕ) → (F → ℕ) → F → F → Type 0
 Before number place f g =
-  (stage (number f) < stage (number g))
-  ⊎ ((stage (number f) ≡ stage (number g)) × ((place f < place g) ⊎ ((place f ≡ place g) × (number f < number g))))
+    (stage (number f) < stage (number g))
+    ⊎ ((stage (number f) ≡ stage (number g)) × ((place f < place g) ⊎ ((place f ≡ place g) × (number f < number g))))
 
 -- f is there, and no fault that is looked for before it
 pub record First {F : Type 0} (There : F → Type 0) (Earlier : F → F → Type 0) (f : F) : Type 0 where

@@ -1,10 +1,14 @@
 -- What each check of a table leaves known of its bytes.
 use mathlib.Core.Path.{_≡_}
 use mathlib.Core.List.{List}
-use mathlib.Core.Logic.{_≢_}
+use mathlib.Core.Logic.{_≢_, _↔_}
 use Prim.Native.Nat.{ℕ, _+_, _*_, _<_, _≤_}
-use lib.ListN.{length}
-use Rattle.systems.specs.StoredTable.{count-of, first-of, records-of, role-byte, head-of, event-of, target-of, next-of}
+use lib.ListN.{length, getD}
+use Rattle.std.specs.declared.option.Option.{Option}
+use Rattle.std.specs.declared.option.Option.the-variants.{None, Some}
+use Rattle.systems.specs.StoredTable.{count-of, first-of, records-of, role-byte, head-of, event-of, target-of, next-of, role-number, HasRecord}
+use Rattle.systems.specs.declared.system.Role.{Role}
+use Rattle.systems.specs.declared.system.Role.the-variants.{Absent}
 use Rattle.systems.specs.TableFaults.{Numbers, RecordFaulty, record-number, record-place}
 use Rattle.systems.specs.declared.stored_table.fault.RecordFault.{RecordFault}
 use Rattle.systems.specs.declared.stored_table.layout.Record.{Record as Fields}
@@ -55,3 +59,21 @@ pub record FirstOfRecord (bs : List ℕ) (k : ℕ) (f : RecordFault) : Type 0 wh
   pub place : record-place f ≡ k
   pub there : RecordFaulty bs f
   pub none-before : (g : RecordFault) → record-place g ≡ k → record-number g < record-number f → RecordFaulty bs g → ⊥
+
+-- What taking up reads of sound bytes, list by list.
+
+abbrev pub RolesRead : List ℕ → List Role → Type 0
+RolesRead bs roles = (e : ℕ) → e < 64 → role-number (getD roles e Absent) ≡ role-byte bs e
+
+-- no step of state s stands in the list
+abbrev pub RowEmpty : ℕ → List (Option ℕ) → Type 0
+RowEmpty s steps = (e : ℕ) → e < 64 → getD steps (64 * s + e) None ≡ None
+
+-- the steps of state s stand in the list as its chain has them
+abbrev pub ChainRead : List ℕ → ℕ → List (Option ℕ) → Type 0
+ChainRead bs s steps = (e : ℕ) → e < 64 → (t : ℕ) → (getD steps (64 * s + e) None ≡ Some t) ↔ HasRecord bs s e t
+
+-- the list has the steps of every chain, and no other
+pub record ChainsRead (bs : List ℕ) (steps : List (Option ℕ)) : Type 0 where
+  pub chains : (s : ℕ) → s < count-of bs → ChainRead bs s steps
+  pub rest : (i : ℕ) → 64 * count-of bs ≤ i → getD steps i None ≡ None

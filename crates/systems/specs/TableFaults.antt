@@ -53,7 +53,7 @@ abbrev pub RecordFaulty : List ℕ → RecordFault → Type 0
 RecordFaulty bs (Event k) = Numbers bs k × ((63 < event-of bs k) ⊎ (role-byte bs (event-of bs k) ≡ 0))
 RecordFaulty bs (Target k) = Numbers bs k × (count-of bs ≤ target-of bs k)
 RecordFaulty bs (Next k) =
-  Numbers bs k × ((records-of bs < next-of bs k) ⊎ ((1 ≤ next-of bs k) × (event-of bs (next-of bs k) ≤ event-of bs k)))
+    Numbers bs k × ((records-of bs < next-of bs k) ⊎ ((1 ≤ next-of bs k) × (event-of bs (next-of bs k) ≤ event-of bs k)))
 
 -- the bytes have the fault
 abbrev pub TableFaulty : List ℕ → TableFault → Type 0

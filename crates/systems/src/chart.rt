@@ -10,11 +10,11 @@ pub use answers::ChartSystem;
 
 #[derive(Clone, Copy)]
 pub struct Chart {
-    count: u16,
-    first: u8,
-    roles: [Role; 64],
+    pub(crate) count: u16,
+    pub(crate) first: u8,
+    pub(crate) roles: [Role; 64],
     // The step of state s by event e stands at 64 s + e.
-    steps: [Option<u8>; 16384],
+    pub(crate) steps: [Option<u8>; 16384],
     ghost some: { 1 ≤ count },
     ghost most: { count ≤ 256 },
     ghost begins: { first < count },

@@ -1,4 +1,4 @@
 // Finite state-event systems: what they answer, and how they are made.
-pub mod system;
 pub mod chart;
 pub mod stored_table;
+pub mod system;

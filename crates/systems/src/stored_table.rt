@@ -2,5 +2,8 @@
 mod checks;
 pub mod fault;
 mod layout;
+mod report;
+mod taking_up;
 
 pub use checks::check;
+pub use taking_up::take_up;

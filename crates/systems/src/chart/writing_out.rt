@@ -12,7 +12,12 @@ impl Chart {
     pub fn bare() -> Chart
         ensures { λ r. ⌜ chart-machine r ≡ bare ⌝ }
     {
-        Chart { count: 1, first: 0, roles: [Role::Absent; 64], steps: [None; 16384] }
+        Chart {
+            count: 1,
+            first: 0,
+            roles: [Role::Absent; 64],
+            steps: [None; 16384],
+        }
     }
 
     // Any system, asked for each role and for each step of a state once.
@@ -23,7 +28,12 @@ impl Chart {
         let first = system.first();
         let roles = ask_roles(system);
         let steps = ask_steps(system);
-        Chart { count, first, roles, steps }
+        Chart {
+            count,
+            first,
+            roles,
+            steps,
+        }
     }
 }
 

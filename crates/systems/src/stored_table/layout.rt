@@ -41,5 +41,9 @@ pub(crate) fn record_at(bytes: &[u8], number: u16) -> Record
     let event = word_at(bytes, place);
     let target = word_at(bytes, place + 2);
     let next = word_at(bytes, place + 4);
-    Record { event, target, next }
+    Record {
+        event,
+        target,
+        next,
+    }
 }

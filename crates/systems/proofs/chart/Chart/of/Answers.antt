@@ -12,13 +12,20 @@ use Rattle.systems.proofs.chart.Chart.of.Needs as need
 pub ghost-result : need.ghost-result
 ghost-result g c =
     let m = g .S·System .machine (c .args .system .now) in
-    let w = g .S·System·met .lawful (c .args .system .now) in
-    ( omega (arith, w .count-least)
-    , ( omega (arith, w .count-most)
-      , ( omega (arith, w .first-below)
-        , ( subst (λ (n : ℕ). StepsLawful n (c .ask-roles-roles .result) (c .ask-steps-steps .result)) (sym (c .count-count .ensures))
-            (lists-lawful m w _ _ (c .ask-roles-roles .ensures) (c .ask-steps-steps .ensures))
-          , tt ) ) ) )
+    let w = g .S·System·met .lawful (c .args .system .now) in (
+      omega (arith, w .count-least),
+      (
+        omega (arith, w .count-most),
+        (
+          omega (arith, w .first-below),
+          (
+            subst (λ (n : ℕ). StepsLawful n (c .ask-roles-roles .result) (c .ask-steps-steps .result)) (sym (c .count-count .ensures))
+                (lists-lawful m w _ _ (c .ask-roles-roles .ensures) (c .ask-steps-steps .ensures)),
+            tt,
+          ),
+        ),
+      ),
+    )
 
 pub returns : need.returns
 returns g c =

@@ -11,15 +11,16 @@ pub states-holds : need.states-holds
 states-holds g c = (omega arith, rows-none _)
 
 pub states-again : need.states-again
-states-again g c =
-    ( c .typed .steps
-    , rows-more _ _ _ _ (c .states .inv .1) (c .ask-steps-of .ensures .row) (c .ask-steps-of .ensures .others) )
+states-again g c = (
+  c .typed .steps,
+  rows-more _ _ _ _ (c .states .inv .1) (c .ask-steps-of .ensures .row) (c .ask-steps-of .ensures .others),
+)
 
 pub returns : need.returns
 returns g c s e h =
-    elim (cases-lt s (c .states .n))
-    [ inl l ↦ c .states .inv .1 .rows s e l h
-    | inr k ↦
-        c .states .inv .1 .rest _ (omega arith)
-        ∙ sym (no-state (g .S·System .machine (c .args .system .now)) (g .S·System·met .lawful (c .args .system .now)) s e (omega arith))
+    elim (cases-lt s (c .states .n)) [
+      | inl l ↦ c .states .inv .1 .rows s e l h
+      | inr k ↦
+          c .states .inv .1 .rest _ (omega arith)
+          ∙ sym (no-state (g .S·System .machine (c .args .system .now)) (g .S·System·met .lawful (c .args .system .now)) s e (omega arith))
     ]
