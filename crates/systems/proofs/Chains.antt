@@ -1,19 +1,18 @@
 -- Walking a chain, and writing its steps down.
-use mathlib.Core.Path.{_≡_, refl, sym, ap, subst, subst₃, _∙_}
+use mathlib.Core.Path.{_≡_, refl, sym, ap, subst, _∙_}
 use mathlib.Core.Bool.{cond}
 use mathlib.Core.List.{List}
 use mathlib.Core.Logic.{_⊎_, inl, inr, _≢_}
 use Prim.Native.Nat.{ℕ, _+_, _-_, _*_, _<_, _≤_}
 use native.Mathlib.Omega.{arith}
 use lib.Dec.{eqb}
-use lib.ListN.{length, getD, set}
+use lib.ListN.{length, getD}
 use lib.Seq.{getD-set-same, getD-set-other}
 use Rattle.std.proofs.shelf.Tests.{cases-eq}
 use Rattle.std.specs.declared.option.Option.{Option}
 use Rattle.std.specs.declared.option.Option.the-variants.{None, Some}
 use Rattle.systems.specs.StoredTable.{count-of, records-of, head-of, event-of, target-of, next-of, OnChain, here, further, HasRecord}
-use Rattle.systems.specs.TableChecks.{Sound, RecordSound, FieldsOf, RowEmpty, ChainRead}
-use Rattle.systems.specs.declared.stored_table.layout.Record.{Record as Fields}
+use Rattle.systems.specs.TableChecks.{Sound, RecordSound, RowEmpty, ChainRead, with-step}
 
 same-some : (a b : ℕ) → Some a ≡ Some b → a ≡ b
 same-some a b h = cc
@@ -65,7 +64,7 @@ module _ (bs : List ℕ) (sound : Sound bs) (s : ℕ) (below : s < count-of bs) 
     here-sound = sound .records at low (w .most)
 
     abbrev after : List (Option ℕ)
-    after = set steps (64 * s + event-of bs at) (Some (target-of bs at))
+    after = with-step bs s at steps
 
     same-place : getD after (64 * s + event-of bs at) None ≡ Some (target-of bs at)
     same-place =
@@ -98,18 +97,14 @@ module _ (bs : List ℕ) (sound : Sound bs) (s : ℕ) (below : s < count-of bs) 
           passed = λ h. omega (arith, lower, here-sound .rising h);
         })
 
-    walked : Walked bs s (next-of bs at) after
-    walked =
+    pub walk-more : Walked bs s (next-of bs at) (with-step bs s at steps)
+    walk-more =
         record {
           most = here-sound .next;
           on = chain-more bs (head-of bs s) at (w .on low);
           found = found-more;
           all = λ j c. all-more j (w .all j c);
         }
-
-    pub walk-more : (r : Fields) → FieldsOf bs at r → Walked bs s (r .next) (set steps (64 * s + r .event) (Some (r .target)))
-    walk-more r f =
-        subst₃ (λ (n e t : ℕ). Walked bs s n (set steps (64 * s + e) (Some t))) (sym (f .next)) (sym (f .event)) (sym (f .target)) walked
 
   pub walk-all : (at : ℕ) (steps : List (Option ℕ)) → Walked bs s at steps → at ≡ 0 → ChainRead bs s steps
   walk-all at steps w z e h t = (w .found e t h, back)

@@ -7,7 +7,7 @@ use native.Mathlib.Omega.{arith}
 use Rattle.systems.specs.StoredTable.{count-of, records-of, role-byte, head-of, event-of, target-of, next-of}
 use Rattle.systems.specs.Faults.{Before, First}
 use Rattle.systems.specs.TableFaults.{TableFaulty, RecordFaulty, TableBefore, FirstTableFault, table-number, table-place, record-number, record-place}
-use Rattle.systems.specs.TableChecks.{Sized, RolesKnown, HeadsKnown, Framed, RecordSound, RecordsSound, Sound, FirstOfRecord}
+use Rattle.systems.specs.TableChecks.{Sized, RolesKnown, HeadsKnown, Framed, RecordSound, RecordsSound, FirstOfRecord}
 use Rattle.systems.specs.declared.stored_table.fault.RecordFault.{RecordFault}
 use Rattle.systems.specs.declared.stored_table.fault.RecordFault.the-variants.{Event, Target, Next}
 use Rattle.systems.specs.declared.stored_table.fault.TableFault.{TableFault}
@@ -101,13 +101,3 @@ first-record bs x k sound f first = record { there = first .there; none-before =
           | inl l ↦ unsound bs h (sound (record-place h) (numbered bs h t .0) l) t
           | inr (p, l) ↦ first .none-before h p l t
         ]
-
--- sound bytes have no fault
-pub no-fault : (bs : List ℕ) → Sound bs → (f : TableFault) → TableFaulty bs f → ⊥
-no-fault bs x f t = none f (stage-of f) t
-  where
-    none : (f : TableFault) → Stage f → TableFaulty bs f → ⊥
-    none f (of-header g h) t = unsized bs (x .framed .sized) f h t
-    none f (of-role e) (l, t) = omega (arith, x .framed .roles e l)
-    none f (of-head s) (l, t) = omega (arith, x .framed .heads s l)
-    none f (of-record g) t = let n = numbered bs g t in unsound bs g (x .records (record-place g) (n .0) (n .1)) t

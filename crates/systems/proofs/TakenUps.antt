@@ -6,61 +6,17 @@ use mathlib.Core.Logic.{_⊎_, inl, inr, _≢_, _↔_}
 use Prim.Native.Nat.{ℕ, _+_, _*_, _<_, _≤_}
 use native.Mathlib.Omega.{arith}
 use lib.ListN.{getD}
-use Rattle.std.proofs.shelf.Tests.{cases-lt, cases-eq, lt-ltb}
+use Rattle.std.proofs.shelf.Tests.{cases-lt, lt-ltb}
 use Rattle.std.specs.declared.option.Option.{Option}
 use Rattle.std.specs.declared.option.Option.the-variants.{None, Some}
 use Rattle.systems.specs.Machine.{Machine}
 use Rattle.systems.specs.Flat.{step-lawful, StepsLawful}
 use Rattle.systems.specs.StoredTable.{count-of, first-of, records-of, role-byte, head-of, event-of, target-of, next-of, OnChain, here, further, HasRecord, role-number, Means}
-use Rattle.systems.specs.TableFaults.{TableFaulty}
-use Rattle.systems.specs.TableChecks.{Sized, Framed, RecordSound, Sound, RolesRead, ChainsRead}
+use Rattle.systems.specs.TableChecks.{RecordSound, Sound, RolesRead, ChainsRead}
 use Rattle.systems.specs.declared.system.Role.{Role}
 use Rattle.systems.specs.declared.system.Role.the-variants.{Absent}
-use Rattle.systems.specs.declared.stored_table.fault.RecordFault.the-variants.{Event, Target, Next}
-use Rattle.systems.specs.declared.stored_table.fault.TableFault.{TableFault}
-use Rattle.systems.specs.declared.stored_table.fault.TableFault.the-variants.{Short, Count, First as FirstState, Records, Length, Role as RoleFault, Head, Record}
 use Rattle.systems.proofs.Machines.{is-present, upto, upto-below, upto-past}
 use Rattle.systems.proofs.Chains.{none-some}
-
-not-lt : (a b : ℕ) → (a < b → ⊥) → b ≤ a
-not-lt a b h = omega arith
-
-not-le : (a b : ℕ) → (a ≤ b → ⊥) → b < a
-not-le a b h = omega arith
-
-not-not : (a b : ℕ) → (a ≢ b → ⊥) → a ≡ b
-not-not a b h = elim (cases-eq a b) [ inl e ↦ e | inr ne ↦ absurd (h ne) ]
-
--- bytes without a fault are sound
-module _ (bs : List ℕ) (none : (f : TableFault) → TableFaulty bs f → ⊥) where
-  sized-from : Sized bs
-  sized-from =
-      record {
-        some = not-lt _ _ (λ h. none Count (inl (omega arith)));
-        most = not-lt _ _ (λ h. none Count (inr h));
-        begins = not-le _ _ (none FirstState);
-        few = not-lt _ _ (none Records);
-        long = not-not _ _ (none Length);
-      }
-
-  pub sound-from : Sound bs
-  sound-from =
-      record {
-        framed =
-            record {
-              sized = sized-from;
-              roles = λ e h. not-lt _ _ (λ p. none (RoleFault e) (h, p));
-              heads = λ s h. not-lt _ _ (λ p. none (Head s) (h, p));
-            };
-        records = λ k p q.
-            record {
-              event = not-le _ _ (λ h. none (Record (Event k)) ((p, q), inl (omega arith)));
-              role = λ h. none (Record (Event k)) ((p, q), inr h);
-              target = not-le _ _ (λ h. none (Record (Target k)) ((p, q), h));
-              next = not-lt _ _ (λ h. none (Record (Next k)) ((p, q), inl h));
-              rising = λ l. not-le _ _ (λ h. none (Record (Next k)) ((p, q), inr (l, h)));
-            };
-      }
 
 module _ (bs : List ℕ) (sound : Sound bs) where
   chain-sound : (k j : ℕ) → k ≤ records-of bs → OnChain bs k j → RecordSound bs j

@@ -3,7 +3,7 @@ use mathlib.Core.Path.{_≡_}
 use mathlib.Core.List.{List}
 use mathlib.Core.Logic.{_≢_, _↔_}
 use Prim.Native.Nat.{ℕ, _+_, _*_, _<_, _≤_}
-use lib.ListN.{length, getD}
+use lib.ListN.{length, getD, set}
 use Rattle.std.specs.declared.option.Option.{Option}
 use Rattle.std.specs.declared.option.Option.the-variants.{None, Some}
 use Rattle.systems.specs.StoredTable.{count-of, first-of, records-of, role-byte, head-of, event-of, target-of, next-of, role-number, HasRecord}
@@ -68,6 +68,10 @@ RolesRead bs roles = (e : ℕ) → e < 64 → role-number (getD roles e Absent) 
 -- no step of state s stands in the list
 abbrev pub RowEmpty : ℕ → List (Option ℕ) → Type 0
 RowEmpty s steps = (e : ℕ) → e < 64 → getD steps (64 * s + e) None ≡ None
+
+-- the list with the step of record k written down for state s
+abbrev pub with-step : List ℕ → ℕ → ℕ → List (Option ℕ) → List (Option ℕ)
+with-step bs s k steps = set steps (64 * s + event-of bs k) (Some (target-of bs k))
 
 -- the steps of state s stand in the list as its chain has them
 abbrev pub ChainRead : List ℕ → ℕ → List (Option ℕ) → Type 0

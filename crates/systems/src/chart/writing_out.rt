@@ -62,7 +62,7 @@ fn ask_steps_of<S: System>(system: &S, state: u8, steps: &mut [Option<u8>; 16384
     ensures row { λ _. ⌜ ListsStepsOf (S·System .machine (now (system .entry))) state (now (steps .exit)) ⌝ }
     ensures others { λ _. ⌜ KeepsOtherRows state (now (steps .entry)) (now (steps .exit)) ⌝ }
 {
-    'events: for e in 0..64u8 {
-        steps[64 * state as usize + e as usize] = system.step(state, e);
+    'events: for event in 0..64u8 {
+        steps[64 * state as usize + event as usize] = system.step(state, event);
     }
 }

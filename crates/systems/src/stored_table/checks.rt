@@ -1,8 +1,9 @@
 // The checks of a table, in their order.
 ghost use Prim.Native.Nat.{ℕ, _≤_};
 ghost use Rattle.std.specs.Results.{Cases};
+ghost use Rattle.std.specs.Vec.{made};
 ghost use Rattle.systems.specs.TableFaults.{Numbers, FirstTableFault, TableChecked};
-ghost use Rattle.systems.specs.TableChecks.{Sized, RolesKnown, HeadsKnown, Framed, RecordSound, RecordsSound, FirstOfRecord};
+ghost use Rattle.systems.specs.TableChecks.{Sized, RolesKnown, HeadsKnown, Framed, RecordSound, RecordsSound, Sound, FirstOfRecord};
 ghost use Rattle.systems.specs.StoredTable.{records-of};
 ghost use Rattle.systems.specs.declared.stored_table.fault.TableFault.the-variants.{Record};
 use crate::stored_table::fault::RecordFault;
@@ -13,7 +14,8 @@ use crate::stored_table::layout::word_at;
 
 // The first fault of a table's bytes, if they have any.
 pub fn check(bytes: &[u8]) -> Result<(), TableFault>
-    ensures { λ r. ⌜ TableChecked (now (bytes .entry)) r ⌝ }
+    ensures value { λ r. ⌜ TableChecked (now (bytes .entry)) r ⌝ }
+    ensures sound { λ r. ⌜ made r (λ _. Sound (now (bytes .entry))) ⌝ }
 {
     check_header(bytes)?;
     check_roles(bytes)?;

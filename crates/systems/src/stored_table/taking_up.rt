@@ -1,12 +1,11 @@
 // A table's bytes taken up as a chart.
 ghost use mathlib.Core.Path.{_≡_};
-ghost use Prim.Native.Nat.{ℕ, _+_, _*_, _<_, _≤_};
-ghost use lib.ListN.{getD};
+ghost use Prim.Native.Nat.{_<_, _≤_};
 ghost use Rattle.systems.specs.Flat.{KeepsOtherRows};
 ghost use Rattle.systems.specs.Charts.{chart-machine};
-ghost use Rattle.systems.specs.StoredTable.{count-of, role-number, role-byte, Means};
-ghost use Rattle.systems.specs.TableFaults.{TakenUp};
-ghost use Rattle.systems.specs.TableChecks.{RolesKnown, Sound, RolesRead, ChainRead, ChainsRead, RowEmpty};
+ghost use Rattle.systems.specs.StoredTable.{count-of, next-of, role-number, Means};
+ghost use Rattle.systems.specs.TableFaults.{Numbers, TakenUp};
+ghost use Rattle.systems.specs.TableChecks.{Sound, RolesRead, ChainRead, ChainsRead, RowEmpty, with-step};
 use crate::chart::Chart;
 use crate::stored_table::checks::check;
 use crate::stored_table::layout::record_at;
@@ -83,8 +82,19 @@ fn read_chain(bytes: &[u8], state: usize, steps: &mut [Option<u8>; 16384])
 {
     let mut at = word_at(bytes, 70 + 2 * state);
     'chain: while at != 0 {
-        let record = record_at(bytes, at);
-        steps[64 * state + record.event as usize] = Some(record.target as u8);
-        at = record.next;
+        at = write_step(bytes, at, state, steps);
     }
+}
+
+// Writes the step of one record of the state's chain, and answers which record is next.
+fn write_step(bytes: &[u8], number: u16, state: usize, steps: &mut [Option<u8>; 16384]) -> u16
+    requires sound { ⌜ Sound (now bytes) ⌝ }
+    requires numbers { ⌜ Numbers (now bytes) number ⌝ }
+    requires below { ⌜ state < count-of (now bytes) ⌝ }
+    ensures value { λ r. ⌜ r ≡ next-of (now (bytes .entry)) number ⌝ }
+    ensures after { λ _. ⌜ now (steps .exit) ≡ with-step (now (bytes .entry)) state number (now (steps .entry)) ⌝ }
+{
+    let record = record_at(bytes, number);
+    steps[64 * state + record.event as usize] = Some(record.target as u8);
+    record.next
 }

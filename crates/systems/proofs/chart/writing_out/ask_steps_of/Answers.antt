@@ -11,7 +11,7 @@ use Rattle.systems.proofs.chart.writing_out.ask_steps_of.Needs as need
 pub events-again : need.events-again
 events-again g c =
     let s = c .args .state in
-    let e = c .events .e in (
+    let e = c .events .event in (
       simp length-set (c .events .inv .0),
       below-more _ _
           (λ k h. let ne : 64 * s + k ≢ 64 * s + e = omega arith in rw getD-set-other (c .events .inv .1 k h))

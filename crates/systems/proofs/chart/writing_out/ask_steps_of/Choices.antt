@@ -8,5 +8,5 @@ use Rattle.systems.proofs.chart.writing_out.ask_steps_of.Given as given
 abbrev pub Inv-events : given.InvT-events
 Inv-events g l =
     (length (l .steps) ≡ 16384)
-    × ((e : ℕ) → e < l .e → getD (l .steps) (64 * l .state + e) None ≡ g .S·System .machine (l .system) .step (l .state) e)
+    × ((e : ℕ) → e < l .event → getD (l .steps) (64 * l .state + e) None ≡ g .S·System .machine (l .system) .step (l .state) e)
     × KeepsOtherRows (l .state) (l .entry .steps) (l .steps)
