@@ -1,0 +1,4 @@
+pub mod Bundles
+pub mod BundleFaults
+pub mod Findings
+pub mod Lines

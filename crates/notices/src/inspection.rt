@@ -1,0 +1,43 @@
+// What is found in a bundle.
+ghost use Rattle.notices.specs.BundleFaults.{Faultless};
+ghost use Rattle.notices.specs.Bundles.{Whole};
+ghost use Rattle.notices.specs.Findings.{Found};
+use crate::bundle;
+use crate::fault::BundleFault;
+use systems::chart::ChartSystem;
+use systems::stored_table;
+use systems::system::System;
+use unwinding::reach::reached_count;
+
+#[derive(Clone, Copy)]
+pub enum Finding {
+    // The number of states, and of those that are reached.
+    Sound { states: u16, reached: u16 },
+    // The first fault.
+    Refused(BundleFault),
+    // A bundle without fault so far, with this many duty bytes, which are not read yet.
+    Duty(usize),
+}
+
+// What a bundle holds, whatever its bytes are.
+pub fn inspect(bytes: &[u8]) -> Finding
+    ensures { λ r. ⌜ Found (now (bytes .entry)) r ⌝ }
+{
+    match bundle::check(bytes) {
+        Ok(()) => inspect_faultless(bytes),
+        Err(fault) => Finding::Refused(fault),
+    }
+}
+
+fn inspect_faultless(bytes: &[u8]) -> Finding
+    requires whole { ⌜ Whole (now bytes) ⌝ }
+    requires faultless { ⌜ Faultless (now bytes) ⌝ }
+    ensures { λ r. ⌜ Found (now (bytes .entry)) r ⌝ }
+{
+    let duty = bytes.len() - 67 - bundle::table_length_of(bytes);
+    if duty > 0 {
+        return Finding::Duty(duty);
+    }
+    let chart = stored_table::take_up(bundle::table_of(bytes));
+    Finding::Sound { states: chart.count(), reached: reached_count(&chart) }
+}

@@ -1,0 +1,9 @@
+pub mod Computed
+pub mod BitLaws
+pub mod Members
+pub mod Counted
+pub mod Outside
+pub mod Events
+pub mod Falling
+pub mod Closing
+pub mod Starting

@@ -1,0 +1,6 @@
+pub mod Bits
+pub mod Tallies
+pub mod StateSets
+pub mod EventSets
+pub mod Classes
+pub mod Closed
