@@ -9,7 +9,11 @@ use std::io::Read;
 const LONGEST_BUNDLE: u64 = 65536;
 
 fn main(rt: LibcRuntime) -> Result<(), AnyError> {
-    rt.report(run(&rt))
+    let result = run(&rt);
+    if let Err(error) = &result {
+        eprintln!(rt, "flowclear: {error}")?;
+    }
+    result
 }
 
 fn run(rt: &LibcRuntime) -> Result<(), AnyError> {

@@ -10,5 +10,5 @@ use Rattle.notices.specs.declared.inspection.Finding.the-variants.{Sound, Refu
 abbrev pub line : Finding → List ℕ
 line (Sound states reached) = codes "states " ++ (decimal states ++ (codes " reached " ++ decimal reached))
 line (Refused f) =
-  codes "refused " ++ (decimal (fault-number f) ++ (codes " part " ++ (decimal (fault-part f) ++ (codes " place " ++ decimal (fault-place f)))))
+    codes "refused " ++ (decimal (fault-number f) ++ (codes " part " ++ (decimal (fault-part f) ++ (codes " place " ++ decimal (fault-place f)))))
 line (Duty n) = decimal n ++ codes " duty bytes after the table are not read yet"

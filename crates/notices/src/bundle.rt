@@ -4,7 +4,7 @@ ghost use Prim.Native.Nat.{_≤_};
 ghost use lib.ListN.{length};
 ghost use Rattle.std.specs.Results.{Cases};
 ghost use Rattle.std.specs.Vec.{made};
-ghost use Rattle.notices.specs.Bundles.{table-length, table-of, Whole, LettersKnown};
+ghost use Rattle.notices.specs.Bundles.{table-length, table-of, duty-of, Whole, LettersKnown};
 ghost use Rattle.notices.specs.BundleFaults.{BundleChecked, FirstBundleFault};
 use crate::fault::BundleFault;
 use crate::fault::BundleFaultFromTable;
@@ -63,4 +63,12 @@ pub(crate) fn table_of(bytes: &[u8]) -> &[u8]
 {
     let length = table_length_of(bytes);
     &bytes[67..67 + length]
+}
+
+// How many bytes follow the table.
+pub(crate) fn duty_length_of(bytes: &[u8]) -> usize
+    requires { ⌜ Whole (now bytes) ⌝ }
+    ensures { λ r. ⌜ r ≡ length (duty-of (now (bytes .entry))) ⌝ }
+{
+    bytes.len() - 67 - table_length_of(bytes)
 }

@@ -1,6 +1,8 @@
 // What is found in a bundle.
 ghost use Rattle.notices.specs.BundleFaults.{Faultless};
-ghost use Rattle.notices.specs.Bundles.{Whole};
+ghost use mathlib.Core.Path.{_≡_};
+ghost use lib.ListN.{length};
+ghost use Rattle.notices.specs.Bundles.{Whole, duty-of};
 ghost use Rattle.notices.specs.Findings.{Found};
 use crate::bundle;
 use crate::fault::BundleFault;
@@ -34,10 +36,22 @@ fn inspect_faultless(bytes: &[u8]) -> Finding
     requires faultless { ⌜ Faultless (now bytes) ⌝ }
     ensures { λ r. ⌜ Found (now (bytes .entry)) r ⌝ }
 {
-    let duty = bytes.len() - 67 - bundle::table_length_of(bytes);
+    let duty = bundle::duty_length_of(bytes);
     if duty > 0 {
         return Finding::Duty(duty);
     }
+    count_states(bytes)
+}
+
+fn count_states(bytes: &[u8]) -> Finding
+    requires whole { ⌜ Whole (now bytes) ⌝ }
+    requires faultless { ⌜ Faultless (now bytes) ⌝ }
+    requires no_duty { ⌜ length (duty-of (now bytes)) ≡ 0 ⌝ }
+    ensures { λ r. ⌜ Found (now (bytes .entry)) r ⌝ }
+{
     let chart = stored_table::take_up(bundle::table_of(bytes));
-    Finding::Sound { states: chart.count(), reached: reached_count(&chart) }
+    Finding::Sound {
+        states: chart.count(),
+        reached: reached_count(&chart),
+    }
 }

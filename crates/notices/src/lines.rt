@@ -16,7 +16,10 @@ pub impl fmt::Display for Finding as FindingDisplay {
                 let place = fault.place();
                 write!(f, "refused {number} part {part} place {place}")
             }
-            Finding::Duty(bytes) => write!(f, "{bytes} duty bytes after the table are not read yet"),
+            Finding::Duty(bytes) => write!(
+                f,
+                "{bytes} duty bytes after the table are not read yet"
+            ),
         }
     }
 }

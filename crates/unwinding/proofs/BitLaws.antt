@@ -1,12 +1,11 @@
 -- The bits of what is computed from numbers.
 use mathlib.Core.Path.{_≡_, refl, sym, ap, _∙_}
-use mathlib.Core.Bool.{true, false, _&&_, _||_, not}
-use Prim.Native.Nat.{ℕ, zero, suc, _+_, _-_, _/_, _%_, _^_, _<_}
+use mathlib.Core.Bool.{false, _&&_, _||_, not}
+use Prim.Native.Nat.{ℕ, zero, suc, _-_, _/_, _%_, _^_, _<_}
 use native.Mathlib.Omega.{arith}
 use native.Mathlib.Nat.{zero-div, pow-suc}
 use native.Mathlib.Numerals.{one-add}
 use lib.Bits.{bitAnd, bitOr, and-shr, or-shr, and-mod, or-mod, or-comm}
-use lib.Count.{trailingZeros, under}
 use lib.Dec.{eqb}
 use Rattle.std.proofs.shelf.Bits.{shr-shr}
 use Rattle.std.proofs.shelf.Ways.{tells}
@@ -23,7 +22,7 @@ pub bit-or : (x y k : ℕ) → bit (bitOr x y) k ≡ (bit x k || bit y k)
 bit-or x y k =
     ap (λ n. eqb (n % 2) 1) (or-shr x y k) ∙ ap (λ n. eqb n 1) (or-mod (x / 2 ^ k) (y / 2 ^ k) 1)
     ∙ agree-below 2 2 (λ a b. eqb (bitOr a b) 1) (λ a b. eqb a 1 || eqb b 1) refl
-      (x / 2 ^ k % 2) (y / 2 ^ k % 2) (omega arith) (omega arith)
+    (x / 2 ^ k % 2) (y / 2 ^ k % 2) (omega arith) (omega arith)
 
 -- one bit more
 pub bit-set : (x m k : ℕ) → m < 64 → k < 64 → bit (bitOr x (2 ^ m)) k ≡ (eqb k m || bit x k)
@@ -33,7 +32,7 @@ pub bit-and : (x y k : ℕ) → bit (bitAnd x y) k ≡ (bit x k && bit y k)
 bit-and x y k =
     ap (λ n. eqb (n % 2) 1) (and-shr x y k) ∙ ap (λ n. eqb n 1) (and-mod (x / 2 ^ k) (y / 2 ^ k) 1)
     ∙ agree-below 2 2 (λ a b. eqb (bitAnd a b) 1) (λ a b. eqb a 1 && eqb b 1) refl
-      (x / 2 ^ k % 2) (y / 2 ^ k % 2) (omega arith) (omega arith)
+    (x / 2 ^ k % 2) (y / 2 ^ k % 2) (omega arith) (omega arith)
 
 pub lowest-digit : (x : ℕ) → bit x 0 ≡ eqb (x % 2) 1
 lowest-digit x = let e : x / 1 ≡ x = omega arith in ap (λ n. eqb (n % 2) 1) e
@@ -55,26 +54,3 @@ bit-complement (suc w) x (suc k) hx hk =
     let f : (2 ^ suc w - 1 - x) / 2 ≡ 2 ^ w - 1 - x / 2 = omega arith in
     bit-half (2 ^ suc w - 1 - x) k ∙ ap (λ n. bit n k) f
     ∙ bit-complement w (x / 2) k (half-below w x hx) (omega arith) ∙ ap not (sym (bit-half x k))
-
--- j is the place of the lowest bit of x, which has w bits
-abbrev pub Lowest : ℕ → ℕ → ℕ → Type 0
-Lowest w x j = (j < w) × (bit x j ≡ true) × ((k : ℕ) → k < j → bit x k ≡ false)
-
-lowest-more : (w x j d : ℕ) → x % 2 ≡ d → (d ≡ 0 → Lowest w (x / 2) j) → Lowest (suc w) x (under d j)
-lowest-more w x j zero e r =
-    ( omega (arith, r refl .0)
-    , bit-half x j ∙ r refl .1
-    , elim
-      [ zero ↦ λ h. lowest-digit x ∙ ap (λ n. eqb n 1) e
-      | suc k ↦ λ h. bit-half x k ∙ r refl .2 k (omega arith)
-      ] )
-lowest-more w x j (suc d) e r =
-    let one : x % 2 ≡ 1 = omega arith in
-    (omega arith, lowest-digit x ∙ ap (λ n. eqb n 1) one, λ k h. absurd (omega arith))
-
-pub lowest-bit : (w x : ℕ) → x < 2 ^ w → (x ≡ 0 → ⊥) → Lowest w x (trailingZeros w x)
-unfolding trailingZeros
-lowest-bit zero x h ne = absurd (ne (omega arith))
-lowest-bit (suc w) x h ne =
-    lowest-more w x (trailingZeros w (x / 2)) (x % 2) refl
-    (λ e. lowest-bit w (x / 2) (half-below w x h) (λ z. ne (omega arith)))

@@ -3,6 +3,3 @@ pub mod class;
 pub mod event_set;
 pub mod reach;
 pub mod state_set;
-
-#[cfg(test)]
-mod tests;
