@@ -3,10 +3,8 @@ ghost use mathlib.Core.Path.{_≡_};
 ghost use Rattle.notices.specs.declared.fault.BundleFault.the-variants.{Table};
 use systems::stored_table::fault::TableFault;
 use systems::stored_table::fault::TableFaultDebug;
-use systems::stored_table::fault::TableFaultEq;
-use systems::stored_table::fault::TableFaultPartialEq;
 
-#[derive(Clone, Copy, PartialEq, Eq, Debug)]
+#[derive(Clone, Copy, Debug)]
 pub enum BundleFault {
     // Shorter than its fixed part.
     Short,

@@ -1,5 +1,5 @@
 -- Walking a chain, and writing its steps down.
-use mathlib.Core.Path.{_≡_, refl, sym, ap, subst, _∙_}
+use mathlib.Core.Path.{_≡_, refl, sym, ap, subst, subst₂, _∙_}
 use mathlib.Core.Bool.{cond}
 use mathlib.Core.List.{List}
 use mathlib.Core.Logic.{_⊎_, inl, inr, _≢_}
@@ -11,8 +11,10 @@ use lib.Seq.{getD-set-same, getD-set-other}
 use Rattle.std.proofs.shelf.Tests.{cases-eq}
 use Rattle.std.specs.declared.option.Option.{Option}
 use Rattle.std.specs.declared.option.Option.the-variants.{None, Some}
+use Rattle.systems.specs.Flat.{KeepsOtherRows}
 use Rattle.systems.specs.StoredTable.{count-of, records-of, head-of, event-of, target-of, next-of, OnChain, here, further, HasRecord}
 use Rattle.systems.specs.TableChecks.{Sound, RecordSound, RowEmpty, ChainRead, with-step}
+use Rattle.systems.proofs.Rows.{keeps-write}
 
 same-some : (a b : ℕ) → Some a ≡ Some b → a ≡ b
 same-some a b h = cc
@@ -97,14 +99,24 @@ module _ (bs : List ℕ) (sound : Sound bs) (s : ℕ) (below : s < count-of bs) 
           passed = λ h. omega (arith, lower, here-sound .rising h);
         })
 
-    pub walk-more : Walked bs s (next-of bs at) (with-step bs s at steps)
-    walk-more =
+    walked : Walked bs s (next-of bs at) after
+    walked =
         record {
           most = here-sound .next;
           on = chain-more bs (head-of bs s) at (w .on low);
           found = found-more;
           all = λ j c. all-more j (w .all j c);
         }
+
+    pub walk-more : (next : ℕ) (written : List (Option ℕ)) → next ≡ next-of bs at → written ≡ with-step bs s at steps
+        → Walked bs s next written
+    walk-more next written p q = subst₂ (λ (n : ℕ) (l : List (Option ℕ)). Walked bs s n l) (sym p) (sym q) walked
+
+    pub walk-keeps : (before written : List (Option ℕ)) → written ≡ with-step bs s at steps → KeepsOtherRows s before steps
+        → KeepsOtherRows s before written
+    walk-keeps before written q k =
+        subst (λ (l : List (Option ℕ)). KeepsOtherRows s before l) (sym q)
+        (keeps-write s (event-of bs at) before steps (Some (target-of bs at)) (here-sound .event) k)
 
   pub walk-all : (at : ℕ) (steps : List (Option ℕ)) → Walked bs s at steps → at ≡ 0 → ChainRead bs s steps
   walk-all at steps w z e h t = (w .found e t h, back)

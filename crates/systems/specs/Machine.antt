@@ -22,6 +22,10 @@ pub record Lawful (m : Machine) : Type 0 where
   pub state-below : (s e t : ℕ) → m .step s e ≡ Some t → s < m .count
   pub takes-part : (s e t : ℕ) → m .step s e ≡ Some t → m .role e ≡ Absent → ⊥
 
--- one state and no event
+-- states and no event
+abbrev pub eventless : ℕ → ℕ → Machine
+eventless count first = record { count = count; first = first; role = λ e. Absent; step = λ s e. None }
+
+-- the bare machine: one state and no event
 abbrev pub bare : Machine
-bare = record { count = 1; first = 0; role = λ e. Absent; step = λ s e. None }
+bare = eventless 1 0

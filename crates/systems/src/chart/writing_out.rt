@@ -1,6 +1,7 @@
 // Systems written out as charts.
 ghost use mathlib.Core.Path.{_≡_};
-ghost use Rattle.systems.specs.Machine.{bare};
+ghost use Prim.Native.Nat.{_<_, _≤_};
+ghost use Rattle.systems.specs.Machine.{bare, eventless as eventless-machine};
 ghost use Rattle.systems.specs.Flat.{ListsRoles, ListsSteps, ListsStepsOf, KeepsOtherRows};
 ghost use Rattle.systems.specs.Charts.{chart-machine};
 use crate::chart::Chart;
@@ -12,9 +13,18 @@ impl Chart {
     pub fn bare() -> Chart
         ensures { λ r. ⌜ chart-machine r ≡ bare ⌝ }
     {
+        Chart::eventless(1, 0)
+    }
+
+    fn eventless(count: u16, first: u8) -> Chart
+        requires some { ⌜ 1 ≤ count ⌝ }
+        requires most { ⌜ count ≤ 256 ⌝ }
+        requires begins { ⌜ first < count ⌝ }
+        ensures { λ r. ⌜ chart-machine r ≡ eventless-machine count first ⌝ }
+    {
         Chart {
-            count: 1,
-            first: 0,
+            count,
+            first,
             roles: [Role::Absent; 64],
             steps: [None; 16384],
         }

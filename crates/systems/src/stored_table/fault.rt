@@ -3,7 +3,7 @@ ghost use mathlib.Core.Path.{_≡_};
 ghost use Rattle.systems.specs.declared.stored_table.fault.TableFault.the-variants.{Record};
 
 // What is wrong with a record, with the record's number.
-#[derive(Clone, Copy, PartialEq, Eq, Debug)]
+#[derive(Clone, Copy, Debug)]
 pub enum RecordFault {
     // Its event is above 63 or no event of the system.
     Event(u16),
@@ -13,7 +13,7 @@ pub enum RecordFault {
     Next(u16),
 }
 
-#[derive(Clone, Copy, PartialEq, Eq, Debug)]
+#[derive(Clone, Copy, Debug)]
 pub enum TableFault {
     // Shorter than its fixed part.
     Short,

@@ -1,12 +1,7 @@
-use mathlib.Core.Path.{_≡_, refl, sym, subst, subst₂}
-use mathlib.Core.List.{List}
+use mathlib.Core.Path.{_≡_, refl, sym, subst}
 use Prim.Native.Nat.{ℕ, _≤_}
 use native.Mathlib.Omega.{arith}
-use Rattle.std.specs.declared.option.Option.{Option}
-use Rattle.systems.specs.Flat.{KeepsOtherRows}
-use Rattle.systems.specs.StoredTable.{event-of}
-use Rattle.systems.proofs.Rows.{keeps-write}
-use Rattle.systems.proofs.Chains.{Walked, walk-none, walk-more, walk-all}
+use Rattle.systems.proofs.Chains.{Walked, walk-none, walk-more, walk-keeps, walk-all}
 use Rattle.systems.proofs.stored_table.taking_up.read_chain.Needs as need
 
 pub chain-holds : need.chain-holds
@@ -20,17 +15,12 @@ chain-holds c =
 
 pub chain-again : need.chain-again
 chain-again c =
-    let bs = c .args .bytes .now in
-    let s = c .args .state in
-    let at = c .chain .at in
-    let low : 1 ≤ at = omega arith in
-    let sound = c .pre .sound .records at low (c .chain .inv .1 .most) in
-    let after = sym (c .write-step-at .ensures .after) in (
+    let low : 1 ≤ c .chain .at = omega arith in (
       c .write-step-at .array-long,
-      subst₂ (λ (n : ℕ) (l : List (Option ℕ)). Walked bs s n l) (sym (c .write-step-at .ensures .value)) after
-          (walk-more bs (c .pre .sound) s (c .pre .below) at (c .chain .steps) (c .chain .inv .0) (c .chain .inv .1) low),
-      subst (λ (l : List (Option ℕ)). KeepsOtherRows s (c .args .steps .now) l) after
-          (keeps-write s (event-of bs at) _ _ _ (sound .event) (c .chain .inv .2)),
+      walk-more (c .args .bytes .now) (c .pre .sound) (c .args .state) (c .pre .below) (c .chain .at) (c .chain .steps) (c .chain .inv .0) (c .chain .inv .1)
+          low _ _ (c .write-step-at .ensures .value) (c .write-step-at .ensures .after),
+      walk-keeps (c .args .bytes .now) (c .pre .sound) (c .args .state) (c .pre .below) (c .chain .at) (c .chain .steps) (c .chain .inv .0) (c .chain .inv .1)
+          low _ _ (c .write-step-at .ensures .after) (c .chain .inv .2),
     )
 
 pub returns : need.returns

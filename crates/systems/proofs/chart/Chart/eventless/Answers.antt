@@ -1,26 +1,25 @@
-use mathlib.Core.Path.{_≡_, refl, ap}
+use mathlib.Core.Path.{_≡_, refl}
 use mathlib.Core.Bool.{Bool, true, false, cond}
 use Prim.Native.Nat.{ℕ, _+_, _*_}
-use native.Mathlib.Omega.{arith}
 use lib.Dec.{ltb}
-use lib.ListN.{getD, replicate}
+use lib.ListN.{replicate}
 use Rattle.std.specs.declared.option.Option.{Option}
 use Rattle.std.specs.declared.option.Option.the-variants.{None}
 use Rattle.systems.specs.declared.system.Role.the-variants.{Absent}
 use Rattle.systems.specs.Flat.{StepsLawful}
 use Rattle.systems.proofs.Replicas.{replica-at}
 use Rattle.systems.proofs.Machines.{same-machine}
-use Rattle.systems.proofs.chart.Chart.bare.Needs as need
+use Rattle.systems.proofs.chart.Chart.eventless.Needs as need
 
-goes : StepsLawful 1 (replicate 64 Absent) (replicate 16384 None)
-goes s e h = rw (replica-at {A = Option ℕ} 16384 (64 * s + e) None) refl
+goes : (n : ℕ) → StepsLawful n (replicate 64 Absent) (replicate 16384 None)
+goes n s e h = rw (replica-at {A = Option ℕ} 16384 (64 * s + e) None) refl
 
 either-way : {A : Type 0} (b : Bool) (x y : A) → x ≡ y → cond b x y ≡ y
 either-way true x y p = p
 either-way false x y p = refl
 
 pub ghost-result : need.ghost-result
-ghost-result c = (omega arith, (omega arith, (omega arith, (goes, tt))))
+ghost-result c = (c .pre .some, (c .pre .most, (c .pre .begins, (goes (c .args .count), tt))))
 
 pub returns : need.returns
 returns c =
