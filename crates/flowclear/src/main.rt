@@ -9,19 +9,20 @@ use std::io::Read;
 const LONGEST_BUNDLE: u64 = 65536;
 
 fn main(rt: LibcRuntime) -> Result<(), AnyError> {
-    let result = run(&rt);
+    let result = tell(&rt);
     if let Err(error) = &result {
         eprintln!(rt, "flowclear: {error}")?;
     }
     result
 }
 
-fn run(rt: &LibcRuntime) -> Result<(), AnyError> {
+fn tell(rt: &LibcRuntime) -> Result<(), AnyError> {
     let mut bundle = Vec::new(rt.alloc());
     rt.stdin().take(LONGEST_BUNDLE).read_to_end(&mut bundle)?;
     let finding = inspect(bundle.as_slice());
     match finding {
-        Finding::Duty(_) => Err(format!(rt.alloc(), "{finding}")?.into()),
-        _ => Ok(println!(rt, "{finding}")?),
+        Finding::Sound { .. } | Finding::Refused(_) => println!(rt, "{finding}")?,
+        Finding::Duty(_) => return Err(format!(rt.alloc(), "{finding}")?.into()),
     }
+    Ok(())
 }

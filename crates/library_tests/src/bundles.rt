@@ -26,7 +26,7 @@ fn refusal(bundle: &[u8]) -> (u8, u8, u16) {
     }
 }
 
-fn line(heap: Global, bundle: &[u8], wanted: &str) -> Result<(), Fail> {
+fn expect_line(heap: Global, bundle: &[u8], wanted: &str) -> Result<(), Fail> {
     let finding = inspect(bundle);
     let line = format!(heap, "{finding}")?;
     check(line.as_str() == wanted)
@@ -59,10 +59,10 @@ fn a_record_keeps_its_number_and_place() -> Result<(), Fail> {
 #[test]
 fn lines_tell_what_was_found(rt: LibcRuntime) -> Result<(), Fail> {
     let mut bundle = steady_bundle();
-    line(rt.alloc(), &bundle, "states 3 reached 3")?;
-    line(rt.alloc(), &bundle[0..166], "refused 4 part 0 place 0")?;
+    expect_line(rt.alloc(), &bundle, "states 3 reached 3")?;
+    expect_line(rt.alloc(), &bundle[0..166], "refused 4 part 0 place 0")?;
     bundle[67 + 82] = 0;
-    line(rt.alloc(), &bundle, "refused 14 part 1 place 1")
+    expect_line(rt.alloc(), &bundle, "refused 14 part 1 place 1")
 }
 
 #[test]
@@ -70,13 +70,13 @@ fn duty_bytes_are_told_apart(rt: LibcRuntime) -> Result<(), Fail> {
     let mut bundle = steady_bundle();
     bundle[65] = 76;
     bundle[71] = 0;
-    line(rt.alloc(), &bundle, "refused 11 part 1 place 0")?;
+    expect_line(rt.alloc(), &bundle, "refused 11 part 1 place 0")?;
     bundle[137] = 0;
     bundle[139] = 0;
     bundle[141] = 0;
-    line(
+    expect_line(
         rt.alloc(),
         &bundle,
-        "24 duty bytes after the table are not read yet",
+        "duty bytes are not read yet: 24 after the table",
     )
 }

@@ -1,10 +1,10 @@
 -- What can be wrong with a bundle: each fault's number, part, place and condition.
-use mathlib.Core.Path.{_≡_}
 use mathlib.Core.List.{List}
 use mathlib.Core.Logic.{_≢_}
 use Prim.Native.Nat.{ℕ, _+_, _<_}
 use lib.ListN.{length, getD}
 use Rattle.std.specs.declared.result.Result.{Result}
+use Rattle.std.specs.Results.{Cases}
 use Rattle.systems.specs.Faults.{Before, First, Checked}
 use Rattle.systems.specs.TableFaults.{table-number, table-place, TableFaulty}
 use Rattle.notices.specs.Bundles.{Classed, table-length, table-of}
@@ -42,6 +42,7 @@ BundleFaulty bs LineFeed = getD bs 64 0 ≢ 10
 BundleFaulty bs Cut = length bs < 67 + table-length bs
 BundleFaulty bs (Table f) = TableFaulty (table-of bs) f
 
+-- the bundle has no fault
 abbrev pub Faultless : List ℕ → Type 0
 Faultless bs = (f : BundleFault) → BundleFaulty bs f → ⊥
 
@@ -54,3 +55,7 @@ FirstBundleFault bs = First (BundleFaulty bs) BundleBefore
 -- what the check of a bundle answers
 abbrev pub BundleChecked : List ℕ → Result (Unit {0}) BundleFault → Type 0
 BundleChecked bs = Checked (BundleFaulty bs) BundleBefore
+
+-- what a stage of the checks answers: that its facts are known, or the first fault
+abbrev pub Passes : Type 0 → List ℕ → Result (Unit {0}) BundleFault → Type 0
+Passes Known bs r = Cases r (λ _. Known) (FirstBundleFault bs)

@@ -19,6 +19,7 @@ pub record Counted (bs : List ℕ) (states reached : ℕ) : Type 0 where
   pub states-are : states ≡ machine .count
   pub reached-are : Tally (Reached machine) 256 reached
 
+-- What is found: the first fault; or, of a bundle without fault, that bytes follow its table; or, where none do, the counts.
 abbrev pub Found : List ℕ → Finding → Type 0
 Found bs (Sound states reached) = Faultless bs × ((length (duty-of bs) ≡ 0) × Counted bs states reached)
 Found bs (Refused f) = FirstBundleFault bs f

@@ -1,3 +1,4 @@
+-- Bundles and findings, in reading order.
 pub mod Bundles
 pub mod BundleFaults
 pub mod Findings

@@ -2,14 +2,18 @@
 ghost use mathlib.Core.Path.{_≡_};
 ghost use Prim.Native.Nat.{_≤_};
 ghost use lib.ListN.{length};
-ghost use Rattle.std.specs.Results.{Cases};
 ghost use Rattle.std.specs.Vec.{made};
 ghost use Rattle.notices.specs.Bundles.{table-length, table-of, duty-of, Whole, LettersKnown};
-ghost use Rattle.notices.specs.BundleFaults.{BundleChecked, FirstBundleFault};
+ghost use Rattle.notices.specs.BundleFaults.{BundleChecked, Passes};
 use crate::fault::BundleFault;
 use crate::fault::BundleFaultFromTable;
 use systems::stored_table;
 use unwinding::class::Class;
+
+// Where the parts of a bundle begin, after the 64 letters.
+const LINE_FEED: usize = 64;
+
+const TABLE: usize = 67;
 
 // The first fault of a bundle, if it has any.
 pub fn check(bytes: &[u8]) -> Result<(), BundleFault>
@@ -23,16 +27,16 @@ pub fn check(bytes: &[u8]) -> Result<(), BundleFault>
 
 // The checks of the bundle itself.
 fn check_frame(bytes: &[u8]) -> Result<(), BundleFault>
-    ensures { λ r. ⌜ Cases r (λ _. Whole (now (bytes .entry))) (FirstBundleFault (now (bytes .entry))) ⌝ }
+    ensures { λ r. ⌜ Passes (Whole (now (bytes .entry))) (now (bytes .entry)) r ⌝ }
 {
-    if bytes.len() < 67 {
+    if bytes.len() < TABLE {
         return Err(BundleFault::Short);
     }
     check_letters(bytes)?;
-    if bytes[64] != b'\n' {
+    if bytes[LINE_FEED] != b'\n' {
         return Err(BundleFault::LineFeed);
     }
-    if bytes.len() - 67 < table_length_of(bytes) {
+    if bytes.len() - TABLE < table_length_of(bytes) {
         return Err(BundleFault::Cut);
     }
     Ok(())
@@ -40,7 +44,7 @@ fn check_frame(bytes: &[u8]) -> Result<(), BundleFault>
 
 fn check_letters(bytes: &[u8]) -> Result<(), BundleFault>
     requires { ⌜ 67 ≤ length (now bytes) ⌝ }
-    ensures { λ r. ⌜ Cases r (λ _. LettersKnown (now (bytes .entry)) 64) (FirstBundleFault (now (bytes .entry))) ⌝ }
+    ensures { λ r. ⌜ Passes (LettersKnown (now (bytes .entry)) 64) (now (bytes .entry)) r ⌝ }
 {
     'events: for e in 0..64u8 {
         let Some(_) = Class::from_letter(bytes[e as usize]) else {
@@ -50,7 +54,7 @@ fn check_letters(bytes: &[u8]) -> Result<(), BundleFault>
     Ok(())
 }
 
-pub(crate) fn table_length_of(bytes: &[u8]) -> usize
+fn table_length_of(bytes: &[u8]) -> usize
     requires { ⌜ 67 ≤ length (now bytes) ⌝ }
     ensures { λ r. ⌜ r ≡ table-length (now (bytes .entry)) ⌝ }
 {
@@ -62,7 +66,7 @@ pub(crate) fn table_of(bytes: &[u8]) -> &[u8]
     ensures { λ r. ⌜ now r ≡ table-of (now (bytes .entry)) ⌝ }
 {
     let length = table_length_of(bytes);
-    &bytes[67..67 + length]
+    &bytes[TABLE..TABLE + length]
 }
 
 // How many bytes follow the table.
@@ -70,5 +74,5 @@ pub(crate) fn duty_length_of(bytes: &[u8]) -> usize
     requires { ⌜ Whole (now bytes) ⌝ }
     ensures { λ r. ⌜ r ≡ length (duty-of (now (bytes .entry))) ⌝ }
 {
-    bytes.len() - 67 - table_length_of(bytes)
+    bytes.len() - TABLE - table_length_of(bytes)
 }

@@ -18,7 +18,7 @@ pub impl fmt::Display for Finding as FindingDisplay {
             }
             Finding::Duty(bytes) => write!(
                 f,
-                "{bytes} duty bytes after the table are not read yet"
+                "duty bytes are not read yet: {bytes} after the table"
             ),
         }
     }

@@ -1,6 +1,5 @@
-pub mod Replicas
+pub mod Filling
 pub mod Machines
 pub mod Rows
-pub mod TableFirsts
 pub mod Chains
 pub mod TakenUps

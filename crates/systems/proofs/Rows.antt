@@ -1,5 +1,5 @@
 -- The list of all steps, filled state by state: a row is the 64 places of one state.
-use mathlib.Core.Path.{_≡_, refl, sym, subst, _∙_}
+use mathlib.Core.Path.{_≡_, sym, subst, _∙_}
 use mathlib.Core.List.{List}
 use mathlib.Core.Logic.{_⊎_, inl, inr, _≢_}
 use Prim.Native.Nat.{ℕ, _+_, _*_, _<_, _≤_}
@@ -10,7 +10,7 @@ use Rattle.std.proofs.shelf.Tests.{cases-lt}
 use Rattle.std.specs.declared.option.Option.{Option}
 use Rattle.std.specs.declared.option.Option.the-variants.{None}
 use Rattle.systems.specs.Flat.{KeepsOtherRows}
-use Rattle.systems.proofs.Replicas.{replica-at}
+use Rattle.systems.proofs.Filling.{replica-at}
 
 -- a write in row s keeps the other rows
 pub keeps-write : (s e : ℕ) (before steps : List (Option ℕ)) (x : Option ℕ) → e < 64

@@ -1,17 +1,16 @@
 -- What sound bytes mean, and that it is a lawful system.
-use mathlib.Core.Path.{_≡_, refl, sym, ap, subst, _∙_}
+use mathlib.Core.Path.{_≡_, refl, sym, ap, _∙_}
 use mathlib.Core.Bool.{true}
 use mathlib.Core.List.{List}
-use mathlib.Core.Logic.{_⊎_, inl, inr, _≢_, _↔_}
+use mathlib.Core.Logic.{inl, inr}
 use Prim.Native.Nat.{ℕ, _+_, _*_, _<_, _≤_}
 use native.Mathlib.Omega.{arith}
 use lib.ListN.{getD}
 use Rattle.std.proofs.shelf.Tests.{cases-lt, lt-ltb}
 use Rattle.std.specs.declared.option.Option.{Option}
 use Rattle.std.specs.declared.option.Option.the-variants.{None, Some}
-use Rattle.systems.specs.Machine.{Machine}
 use Rattle.systems.specs.Flat.{step-lawful, StepsLawful}
-use Rattle.systems.specs.StoredTable.{count-of, first-of, records-of, role-byte, head-of, event-of, target-of, next-of, OnChain, here, further, HasRecord, role-number, Means}
+use Rattle.systems.specs.StoredTable.{count-of, first-of, records-of, role-byte, head-of, next-of, OnChain, here, further, HasRecord, role-number, Means}
 use Rattle.systems.specs.TableChecks.{RecordSound, Sound, RolesRead, ChainsRead}
 use Rattle.systems.specs.declared.system.Role.{Role}
 use Rattle.systems.specs.declared.system.Role.the-variants.{Absent}

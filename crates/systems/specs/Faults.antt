@@ -1,14 +1,16 @@
 -- The first fault in the order of checks: what every check answers.
 use mathlib.Core.Path.{_≡_}
 use mathlib.Core.Logic.{_⊎_}
+use mathlib.Core.Bool.{cond}
 use Prim.Native.Nat.{ℕ, _<_, min}
+use lib.Dec.{ltb}
 use Rattle.std.specs.declared.result.Result.{Result}
 use Rattle.std.specs.declared.result.Result.the-variants.{Ok, Err}
 
--- Checks run in the order of the refusals' numbers; but a table's records are checked one by one, each for 12, 13 and 14, so these are
--- one stage.
+-- Checks run in the order of the refusals' numbers. But 12, 13 and 14 are one stage: they are the faults of a table's records, and the
+-- records are checked one by one, each for all three.
 abbrev pub stage : ℕ → ℕ
-stage number = min number 12
+stage number = cond (ltb number 15) (min number 12) number
 
 -- fault f is looked for before fault g: at an earlier stage, or at a lower place of the same stage, or there under a lower number
 abbrev pub Before : {F : Type 0} → (F → ℕ) → (F → ℕ) → F → F → Type 0

@@ -1,4 +1,4 @@
--- The rules of a system's steps, as a test of a chart's lists.
+-- The lists of a chart: the rules of their steps, and which machine's answers they hold.
 use mathlib.Core.Path.{_≡_}
 use mathlib.Core.Bool.{Bool, true, false, _&&_}
 use mathlib.Core.List.{List}
@@ -12,6 +12,9 @@ use Rattle.systems.specs.Machine.{Machine}
 use Rattle.systems.specs.declared.system.Role.{Role}
 use Rattle.systems.specs.declared.system.Role.the-variants.{Absent, Input, Output, Internal}
 
+-- Ghost fields of a struct take tests rather than relations, so a chart's rules are stated as a test here.
+
+-- the event of this role is one of the system
 abbrev pub present : Role → Bool
 present Absent = false
 present Input = true

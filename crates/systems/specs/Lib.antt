@@ -1,3 +1,4 @@
+-- Systems, in reading order.
 pub mod Machine
 pub mod Runs
 pub mod Flat

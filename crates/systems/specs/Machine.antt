@@ -13,6 +13,8 @@ pub record Machine : Type 0 where
   pub role : ℕ → Role
   pub step : ℕ → ℕ → Option ℕ
 
+-- The rules of a system: it has 1 to 256 states, among them the first and every next state; an event above 63 is none of its events; a step
+-- leads from a state, by an event of the system.
 pub record Lawful (m : Machine) : Type 0 where
   pub count-least : 1 ≤ m .count
   pub count-most : m .count ≤ 256
@@ -22,10 +24,6 @@ pub record Lawful (m : Machine) : Type 0 where
   pub state-below : (s e t : ℕ) → m .step s e ≡ Some t → s < m .count
   pub takes-part : (s e t : ℕ) → m .step s e ≡ Some t → m .role e ≡ Absent → ⊥
 
--- states and no event
-abbrev pub eventless : ℕ → ℕ → Machine
-eventless count first = record { count = count; first = first; role = λ e. Absent; step = λ s e. None }
-
--- the bare machine: one state and no event
+-- one state and no event
 abbrev pub bare : Machine
-bare = eventless 1 0
+bare = record { count = 1; first = 0; role = λ e. Absent; step = λ s e. None }

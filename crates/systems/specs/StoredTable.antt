@@ -3,7 +3,7 @@ use mathlib.Core.Path.{_≡_}
 use mathlib.Core.List.{List}
 use mathlib.Core.Logic.{_↔_}
 use Prim.Native.Nat.{ℕ, _+_, _-_, _*_, _<_, _≤_}
-use lib.ListN.{length, getD}
+use lib.ListN.{getD}
 use Rattle.std.specs.declared.option.Option.the-variants.{Some}
 use Rattle.systems.specs.Machine.{Machine}
 use Rattle.systems.specs.declared.system.Role.{Role}
@@ -30,7 +30,7 @@ role-byte bs e = getD bs (6 + e) 0
 abbrev pub head-of : List ℕ → ℕ → ℕ
 head-of bs s = word bs (70 + 2 * s)
 
--- where record k begins; records are numbered from 1
+-- where record k begins; records are numbered from 1, so nothing asks for record 0
 unfoldable pub place-of : List ℕ → ℕ → ℕ
 place-of bs k = 70 + 2 * count-of bs + 6 * (k - 1)
 

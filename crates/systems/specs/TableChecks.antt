@@ -6,11 +6,15 @@ use Prim.Native.Nat.{ℕ, _+_, _*_, _<_, _≤_}
 use lib.ListN.{length, getD, set}
 use Rattle.std.specs.declared.option.Option.{Option}
 use Rattle.std.specs.declared.option.Option.the-variants.{None, Some}
+use Rattle.std.specs.declared.result.Result.{Result}
+use Rattle.std.specs.Results.{Cases}
 use Rattle.systems.specs.StoredTable.{count-of, first-of, records-of, role-byte, head-of, event-of, target-of, next-of, role-number, HasRecord}
 use Rattle.systems.specs.declared.system.Role.{Role}
 use Rattle.systems.specs.declared.system.Role.the-variants.{Absent}
-use Rattle.systems.specs.TableFaults.{Numbers, RecordFaulty, record-number, record-place}
+use Rattle.systems.specs.TableFaults.{RecordFaulty, FirstTableFault, record-number, record-place}
 use Rattle.systems.specs.declared.stored_table.fault.RecordFault.{RecordFault}
+use Rattle.systems.specs.declared.stored_table.fault.TableFault.{TableFault}
+use Rattle.systems.specs.declared.stored_table.fault.TableFault.the-variants.{Record}
 use Rattle.systems.specs.declared.stored_table.layout.Record.{Record as Fields}
 
 -- after the header: the bytes are as long as their counts say
@@ -21,9 +25,11 @@ pub record Sized (bs : List ℕ) : Type 0 where
   pub few : records-of bs ≤ 8192
   pub long : length bs ≡ 70 + 2 * count-of bs + 6 * records-of bs
 
+-- after the roles
 abbrev pub RolesKnown : List ℕ → Type 0
 RolesKnown bs = (e : ℕ) → e < 64 → role-byte bs e ≤ 3
 
+-- after the heads
 abbrev pub HeadsKnown : List ℕ → Type 0
 HeadsKnown bs = (s : ℕ) → s < count-of bs → head-of bs s ≤ records-of bs
 
@@ -33,6 +39,7 @@ pub record Framed (bs : List ℕ) : Type 0 where
   pub roles : RolesKnown bs
   pub heads : HeadsKnown bs
 
+-- after the checks of record k
 pub record RecordSound (bs : List ℕ) (k : ℕ) : Type 0 where
   pub event : event-of bs k < 64
   pub role : role-byte bs (event-of bs k) ≢ 0
@@ -40,6 +47,7 @@ pub record RecordSound (bs : List ℕ) (k : ℕ) : Type 0 where
   pub next : next-of bs k ≤ records-of bs
   pub rising : 1 ≤ next-of bs k → event-of bs k < event-of bs (next-of bs k)
 
+-- after the checks of the records up to n
 abbrev pub RecordsSound : List ℕ → ℕ → Type 0
 RecordsSound bs n = (k : ℕ) → 1 ≤ k → k ≤ n → RecordSound bs k
 
@@ -60,8 +68,19 @@ pub record FirstOfRecord (bs : List ℕ) (k : ℕ) (f : RecordFault) : Type 0 wh
   pub there : RecordFaulty bs f
   pub none-before : (g : RecordFault) → record-place g ≡ k → record-number g < record-number f → RecordFaulty bs g → ⊥
 
+-- what a stage of the checks answers: that its facts are known, or the first fault
+abbrev pub Passes : (List ℕ → Type 0) → List ℕ → Result (Unit {0}) TableFault → Type 0
+Passes Known bs r = Cases r (λ _. Known bs) (FirstTableFault bs)
+
+abbrev pub RecordPasses : List ℕ → ℕ → Result (Unit {0}) RecordFault → Type 0
+RecordPasses bs k r = Cases r (λ _. RecordSound bs k) (FirstOfRecord bs k)
+
+abbrev pub RecordsPass : List ℕ → Result (Unit {0}) RecordFault → Type 0
+RecordsPass bs r = Cases r (λ _. RecordsSound bs (records-of bs)) (λ f. FirstTableFault bs (Record f))
+
 -- What taking up reads of sound bytes, list by list.
 
+-- the list has the role of each event
 abbrev pub RolesRead : List ℕ → List Role → Type 0
 RolesRead bs roles = (e : ℕ) → e < 64 → role-number (getD roles e Absent) ≡ role-byte bs e
 

@@ -49,6 +49,7 @@ table-place (Record f) = record-place f
 abbrev pub Numbers : List ℕ → ℕ → Type 0
 Numbers bs k = (1 ≤ k) × (k ≤ records-of bs)
 
+-- the record of the fault's number has the fault
 abbrev pub RecordFaulty : List ℕ → RecordFault → Type 0
 RecordFaulty bs (Event k) = Numbers bs k × ((63 < event-of bs k) ⊎ (role-byte bs (event-of bs k) ≡ 0))
 RecordFaulty bs (Target k) = Numbers bs k × (count-of bs ≤ target-of bs k)

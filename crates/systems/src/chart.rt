@@ -1,5 +1,5 @@
 // A system written out flat: each question is answered by one read.
-ghost use Prim.Native.Nat.{ℕ, _<_, _≤_};
+ghost use Prim.Native.Nat.{_<_, _≤_};
 ghost use Rattle.systems.specs.Flat.{StepsLawful};
 use crate::system::Role;
 
@@ -8,7 +8,7 @@ mod writing_out;
 
 pub use answers::ChartSystem;
 
-#[derive(Clone, Copy)]
+#[derive(Drop)]
 pub struct Chart {
     pub(crate) count: u16,
     pub(crate) first: u8,

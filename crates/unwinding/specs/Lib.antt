@@ -1,3 +1,4 @@
+-- Sets, closures and classes, in reading order.
 pub mod Bits
 pub mod Tallies
 pub mod StateSets

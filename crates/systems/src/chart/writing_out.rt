@@ -1,9 +1,10 @@
 // Systems written out as charts.
 ghost use mathlib.Core.Path.{_≡_};
-ghost use Prim.Native.Nat.{_<_, _≤_};
-ghost use Rattle.systems.specs.Machine.{bare, eventless as eventless-machine};
+ghost use Rattle.systems.specs.Machine.{bare};
 ghost use Rattle.systems.specs.Flat.{ListsRoles, ListsSteps, ListsStepsOf, KeepsOtherRows};
 ghost use Rattle.systems.specs.Charts.{chart-machine};
+use crate::bare::Bare;
+use crate::bare::BareSystem;
 use crate::chart::Chart;
 use crate::system::Role;
 use crate::system::System;
@@ -13,24 +14,10 @@ impl Chart {
     pub fn bare() -> Chart
         ensures { λ r. ⌜ chart-machine r ≡ bare ⌝ }
     {
-        Chart::eventless(1, 0)
+        Chart::of(&Bare)
     }
 
-    fn eventless(count: u16, first: u8) -> Chart
-        requires some { ⌜ 1 ≤ count ⌝ }
-        requires most { ⌜ count ≤ 256 ⌝ }
-        requires begins { ⌜ first < count ⌝ }
-        ensures { λ r. ⌜ chart-machine r ≡ eventless-machine count first ⌝ }
-    {
-        Chart {
-            count,
-            first,
-            roles: [Role::Absent; 64],
-            steps: [None; 16384],
-        }
-    }
-
-    // Any system, asked for each role and for each step of a state once.
+    // Any system, asked once for each role and for each step of a state.
     pub fn of<S: System>(system: &S) -> Chart
         ensures { λ r. ⌜ chart-machine r ≡ S·System .machine (now (system .entry)) ⌝ }
     {

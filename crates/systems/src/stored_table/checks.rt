@@ -1,16 +1,25 @@
 // The checks of a table, in their order.
-ghost use Prim.Native.Nat.{ℕ, _≤_};
-ghost use Rattle.std.specs.Results.{Cases};
 ghost use Rattle.std.specs.Vec.{made};
-ghost use Rattle.systems.specs.TableFaults.{Numbers, FirstTableFault, TableChecked};
-ghost use Rattle.systems.specs.TableChecks.{Sized, RolesKnown, HeadsKnown, Framed, RecordSound, RecordsSound, Sound, FirstOfRecord};
-ghost use Rattle.systems.specs.StoredTable.{records-of};
-ghost use Rattle.systems.specs.declared.stored_table.fault.TableFault.the-variants.{Record};
+ghost use Rattle.systems.specs.TableFaults.{Numbers, TableChecked};
+ghost use Rattle.systems.specs.TableChecks.{Sized, RolesKnown, HeadsKnown, Framed, Sound, Passes, RecordPasses, RecordsPass};
 use crate::stored_table::fault::RecordFault;
 use crate::stored_table::fault::TableFault;
 use crate::stored_table::fault::TableFaultFromRecord;
+use crate::stored_table::layout::FIXED_PART;
+use crate::stored_table::layout::ROLES;
+use crate::stored_table::layout::count_of;
+use crate::stored_table::layout::first_of;
+use crate::stored_table::layout::head_of;
 use crate::stored_table::layout::record_at;
-use crate::stored_table::layout::word_at;
+use crate::stored_table::layout::records_of;
+
+const MOST_STATES: u16 = 256;
+
+const MOST_RECORDS: u16 = 8192;
+
+const HIGHEST_ROLE: u8 = 3;
+
+const HIGHEST_EVENT: u16 = 63;
 
 // The first fault of a table's bytes, if they have any.
 pub fn check(bytes: &[u8]) -> Result<(), TableFault>
@@ -25,23 +34,23 @@ pub fn check(bytes: &[u8]) -> Result<(), TableFault>
 }
 
 fn check_header(bytes: &[u8]) -> Result<(), TableFault>
-    ensures { λ r. ⌜ Cases r (λ _. Sized (now (bytes .entry))) (FirstTableFault (now (bytes .entry))) ⌝ }
+    ensures { λ r. ⌜ Passes Sized (now (bytes .entry)) r ⌝ }
 {
-    if bytes.len() < 70 {
+    if bytes.len() < FIXED_PART {
         return Err(TableFault::Short);
     }
-    let count = word_at(bytes, 0);
-    if count == 0 || count > 256 {
+    let count = count_of(bytes);
+    if count == 0 || count > MOST_STATES {
         return Err(TableFault::Count);
     }
-    if word_at(bytes, 2) >= count {
+    if first_of(bytes) >= count {
         return Err(TableFault::First);
     }
-    let records = word_at(bytes, 4);
-    if records > 8192 {
+    let records = records_of(bytes);
+    if records > MOST_RECORDS {
         return Err(TableFault::Records);
     }
-    if bytes.len() != 70 + 2 * usize::from(count) + 6 * usize::from(records) {
+    if bytes.len() != FIXED_PART + 2 * usize::from(count) + 6 * usize::from(records) {
         return Err(TableFault::Length);
     }
     Ok(())
@@ -49,10 +58,10 @@ fn check_header(bytes: &[u8]) -> Result<(), TableFault>
 
 fn check_roles(bytes: &[u8]) -> Result<(), TableFault>
     requires { ⌜ Sized (now bytes) ⌝ }
-    ensures { λ r. ⌜ Cases r (λ _. RolesKnown (now (bytes .entry))) (FirstTableFault (now (bytes .entry))) ⌝ }
+    ensures { λ r. ⌜ Passes RolesKnown (now (bytes .entry)) r ⌝ }
 {
     'events: for e in 0..64u8 {
-        if bytes[6 + usize::from(e)] > 3 {
+        if bytes[ROLES + usize::from(e)] > HIGHEST_ROLE {
             return Err(TableFault::Role(e));
         }
     }
@@ -62,11 +71,11 @@ fn check_roles(bytes: &[u8]) -> Result<(), TableFault>
 fn check_heads(bytes: &[u8]) -> Result<(), TableFault>
     requires sized { ⌜ Sized (now bytes) ⌝ }
     requires roles { ⌜ RolesKnown (now bytes) ⌝ }
-    ensures { λ r. ⌜ Cases r (λ _. HeadsKnown (now (bytes .entry))) (FirstTableFault (now (bytes .entry))) ⌝ }
+    ensures { λ r. ⌜ Passes HeadsKnown (now (bytes .entry)) r ⌝ }
 {
-    let records = word_at(bytes, 4);
-    'states: for s in 0..word_at(bytes, 0) {
-        if word_at(bytes, 70 + 2 * usize::from(s)) > records {
+    let records = records_of(bytes);
+    'states: for s in 0..count_of(bytes) {
+        if head_of(bytes, usize::from(s)) > records {
             return Err(TableFault::Head(s as u8));
         }
     }
@@ -75,9 +84,9 @@ fn check_heads(bytes: &[u8]) -> Result<(), TableFault>
 
 fn check_records(bytes: &[u8]) -> Result<(), RecordFault>
     requires { ⌜ Framed (now bytes) ⌝ }
-    ensures { λ r. ⌜ Cases r (λ _. RecordsSound (now (bytes .entry)) (records-of (now (bytes .entry)))) (λ f. FirstTableFault (now (bytes .entry)) (Record f)) ⌝ }
+    ensures { λ r. ⌜ RecordsPass (now (bytes .entry)) r ⌝ }
 {
-    'records: for i in 0..word_at(bytes, 4) {
+    'records: for i in 0..records_of(bytes) {
         check_record(bytes, i + 1)?;
     }
     Ok(())
@@ -86,16 +95,16 @@ fn check_records(bytes: &[u8]) -> Result<(), RecordFault>
 fn check_record(bytes: &[u8], number: u16) -> Result<(), RecordFault>
     requires sized { ⌜ Sized (now bytes) ⌝ }
     requires numbers { ⌜ Numbers (now bytes) number ⌝ }
-    ensures { λ r. ⌜ Cases r (λ _. RecordSound (now (bytes .entry)) number) (FirstOfRecord (now (bytes .entry)) number) ⌝ }
+    ensures { λ r. ⌜ RecordPasses (now (bytes .entry)) number r ⌝ }
 {
     let record = record_at(bytes, number);
-    if record.event > 63 || bytes[6 + usize::from(record.event)] == 0 {
+    if record.event > HIGHEST_EVENT || bytes[ROLES + usize::from(record.event)] == 0 {
         return Err(RecordFault::Event(number));
     }
-    if record.target >= word_at(bytes, 0) {
+    if record.target >= count_of(bytes) {
         return Err(RecordFault::Target(number));
     }
-    if record.next > word_at(bytes, 4) {
+    if record.next > records_of(bytes) {
         return Err(RecordFault::Next(number));
     }
     if record.next != 0 && record_at(bytes, record.next).event <= record.event {

@@ -8,8 +8,11 @@ ghost use Rattle.systems.specs.TableFaults.{Numbers, TakenUp};
 ghost use Rattle.systems.specs.TableChecks.{Sound, RolesRead, ChainRead, ChainsRead, RowEmpty, with-step};
 use crate::chart::Chart;
 use crate::stored_table::checks::check;
+use crate::stored_table::layout::ROLES;
+use crate::stored_table::layout::count_of;
+use crate::stored_table::layout::first_of;
+use crate::stored_table::layout::head_of;
 use crate::stored_table::layout::record_at;
-use crate::stored_table::layout::word_at;
 use crate::system::Role;
 
 // The system that the bytes mean; the bare one where `check` refuses them.
@@ -26,8 +29,8 @@ fn read_chart(bytes: &[u8]) -> Chart
     requires { ⌜ Sound (now bytes) ⌝ }
     ensures { λ r. ⌜ Means (now (bytes .entry)) (chart-machine r) ⌝ }
 {
-    let count = word_at(bytes, 0);
-    let first = word_at(bytes, 2) as u8;
+    let count = count_of(bytes);
+    let first = first_of(bytes) as u8;
     let roles = read_roles(bytes);
     let steps = read_chains(bytes);
     Chart {
@@ -56,7 +59,7 @@ fn read_roles(bytes: &[u8]) -> [Role; 64]
 {
     let mut roles = [Role::Absent; 64];
     'events: for e in 0..64usize {
-        roles[e] = role_of(bytes[6 + e]);
+        roles[e] = role_of(bytes[ROLES + e]);
     }
     roles
 }
@@ -66,7 +69,7 @@ fn read_chains(bytes: &[u8]) -> [Option<u8>; 16384]
     ensures { λ r. ⌜ ChainsRead (now (bytes .entry)) r ⌝ }
 {
     let mut steps = [None; 16384];
-    'states: for s in 0..word_at(bytes, 0) {
+    'states: for s in 0..count_of(bytes) {
         read_chain(bytes, s as usize, &mut steps);
     }
     steps
@@ -80,7 +83,7 @@ fn read_chain(bytes: &[u8], state: usize, steps: &mut [Option<u8>; 16384])
     ensures row { λ _. ⌜ ChainRead (now (bytes .entry)) state (now (steps .exit)) ⌝ }
     ensures others { λ _. ⌜ KeepsOtherRows state (now (steps .entry)) (now (steps .exit)) ⌝ }
 {
-    let mut at = word_at(bytes, 70 + 2 * state);
+    let mut at = head_of(bytes, state);
     'chain: while at != 0 {
         at = write_step(bytes, at, state, steps);
     }

@@ -1,6 +1,5 @@
 use mathlib.Core.Path.{sym, ap}
 use Rattle.std.proofs.Writes.{put-is}
-use Rattle.notices.specs.declared.inspection.Finding.{Finding}
 use Rattle.notices.specs.Lines.{line}
 use Rattle.notices.proofs.lines.FindingDisplay.fmt.Needs as need
 

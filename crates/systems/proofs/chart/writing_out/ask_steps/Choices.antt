@@ -1,5 +1,4 @@
 use mathlib.Core.Path.{_≡_}
-use Prim.Native.Nat.{ℕ}
 use lib.ListN.{length}
 use Rattle.systems.proofs.Rows.{RowsDone}
 use Rattle.systems.proofs.chart.writing_out.ask_steps.Given as given

@@ -1,4 +1,4 @@
-use mathlib.Core.Path.{_≡_, refl, sym, subst}
+use mathlib.Core.Path.{refl, sym, subst}
 use Prim.Native.Nat.{ℕ, _≤_}
 use native.Mathlib.Omega.{arith}
 use Rattle.systems.proofs.Chains.{Walked, walk-none, walk-more, walk-keeps, walk-all}
@@ -8,7 +8,7 @@ pub chain-holds : need.chain-holds
 chain-holds c =
     let bs = c .args .bytes .now in (
       omega arith,
-      subst (λ (n : ℕ). Walked bs (c .args .state) n (c .args .steps .now)) (sym (c .word-at-at .ensures))
+      subst (λ (n : ℕ). Walked bs (c .args .state) n (c .args .steps .now)) (sym (c .head-of-at .ensures))
           (walk-none bs (c .pre .sound) (c .args .state) (c .pre .below) (c .args .steps .now) (c .pre .empty)),
       λ i h. refl,
     )

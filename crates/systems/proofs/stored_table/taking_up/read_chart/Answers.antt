@@ -1,4 +1,4 @@
-use mathlib.Core.Path.{_≡_, sym, subst}
+use mathlib.Core.Path.{sym, subst}
 use Prim.Native.Nat.{ℕ}
 use native.Mathlib.Omega.{arith}
 use Rattle.systems.specs.Flat.{StepsLawful}
@@ -15,7 +15,7 @@ ghost-result c =
         (
           omega (arith, sized .begins),
           (
-            subst (λ (n : ℕ). StepsLawful n (c .read-roles-roles .result) (c .read-chains-steps .result)) (sym (c .word-at-count .ensures))
+            subst (λ (n : ℕ). StepsLawful n (c .read-roles-roles .result) (c .read-chains-steps .result)) (sym (c .count-of-count .ensures))
                 (read-lawful bs (c .pre) _ (c .read-roles-roles .ensures) _ (c .read-chains-steps .ensures)),
             tt,
           ),
@@ -25,5 +25,5 @@ ghost-result c =
 
 pub returns : need.returns
 returns c =
-    read-means (c .args .bytes .now) (c .pre) _ (c .read-roles-roles .ensures) _ (c .read-chains-steps .ensures) _ _ (c .word-at-count .ensures)
-    (c .word-at-first .ensures)
+    read-means (c .args .bytes .now) (c .pre) _ (c .read-roles-roles .ensures) _ (c .read-chains-steps .ensures) _ _ (c .count-of-count .ensures)
+    (c .first-of-first .ensures)
