@@ -58,7 +58,7 @@ fn table_length_of(bytes: &[u8]) -> usize
     requires { ⌜ 67 ≤ length (now bytes) ⌝ }
     ensures { λ r. ⌜ r ≡ table-length (now (bytes .entry)) ⌝ }
 {
-    bytes[65] as usize + 256 * bytes[66] as usize
+    usize::from(u16::from_le_bytes([bytes[65], bytes[66]]))
 }
 
 pub(crate) fn table_of(bytes: &[u8]) -> &[u8]

@@ -83,5 +83,5 @@ fn word_at(bytes: &[u8], at: usize) -> u16
     requires { ⌜ at + 1 < length (now bytes) ⌝ }
     ensures { λ r. ⌜ r ≡ word (now (bytes .entry)) at ⌝ }
 {
-    u16::from(bytes[at]) + 256 * u16::from(bytes[at + 1])
+    u16::from_le_bytes([bytes[at], bytes[at + 1]])
 }
