@@ -1,4 +1,6 @@
 // Finite state-event systems: what they answer, and how they are made.
+#![tactic(auto)]
+
 pub mod bare;
 pub mod chart;
 pub mod stored_table;

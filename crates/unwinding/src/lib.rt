@@ -1,4 +1,6 @@
 // Sets of states and events, the states that others lead to, and the classes of events.
+#![tactic(auto)]
+
 pub mod class;
 pub mod event_set;
 pub mod reach;

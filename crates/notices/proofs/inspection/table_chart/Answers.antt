@@ -6,5 +6,5 @@ use Rattle.notices.proofs.inspection.table_chart.Goals as goal
 
 pub returns : goal.returns
 returns c =
-    let taken = subst (λ (bs : List ℕ). TakenUp bs (chart_machine c.take-up.result)) c.table-of.ensures c.take-up.ensures in
+    let taken = subst (λ (bs : List ℕ). TakenUp bs (chart_machine c.take_up.result)) c.table_of.ensures c.take_up.ensures in
     taken.sound (λ f t. c.requires.faultless (Table f) t)

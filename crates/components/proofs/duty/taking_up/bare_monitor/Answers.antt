@@ -3,8 +3,8 @@ use Rattle.systems.proofs.Filling.{replica_at}
 use Rattle.components.specs.DutyMachines.{duty_bare}
 use Rattle.components.proofs.duty.taking_up.bare_monitor.Goals as goal
 
-pub invariant-of-result : goal.invariant-of-result
-invariant-of-result c = (omega arith, (λ e h. le_of_eq (replica_at 64 e 0), tt))
+pub invariant_of-result : goal.invariant_of-result
+invariant_of-result c = (omega arith, (λ e h. le_of_eq (replica_at 64 e 0), tt))
 
 pub returns : goal.returns
 returns c = duty_bare (replicate 64 0) (λ e. replica_at 64 e 0)

@@ -3,10 +3,10 @@ use Rattle.components.specs.DutyMachines.{read_monitors}
 use Rattle.components.proofs.SeparatedRuns.{runs_separated}
 use Rattle.components.proofs.duty.taking_up.read_monitor.Goals as goal
 
-pub invariant-of-result : goal.invariant-of-result
-invariant-of-result c = (c.requires.most, (read_known c.args.bytes.now c.requires _ c.read-entries-entries.ensures, tt))
+pub invariant_of-result : goal.invariant_of-result
+invariant_of-result c = (c.requires.most, (read_known c.args.bytes.now c.requires _ c.read_entries-entries.ensures, tt))
 
 pub returns : goal.returns
 returns c =
-    let meant = read_monitors c.args.bytes.now c.requires _ c.read-entries-entries.ensures in
+    let meant = read_monitors c.args.bytes.now c.requires _ c.read_entries-entries.ensures in
     record { taken_up = meant; runs = runs_separated c.args.bytes.now c.requires _ meant }

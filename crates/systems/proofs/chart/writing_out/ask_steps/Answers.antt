@@ -9,8 +9,8 @@ states-init g c = (omega arith, rows_none _)
 
 pub states-preserved : goal.states-preserved
 states-preserved g c = (
-  c.type-inv.steps,
-  rows_more _ _ _ _ c.states.invariant.1 c.ask-steps-of.ensures.row c.ask-steps-of.ensures.others,
+  c.type_inv.steps,
+  rows_more _ _ _ _ c.states.invariant.1 c.ask_steps_of.ensures.row c.ask_steps_of.ensures.others,
 )
 
 pub returns : goal.returns

@@ -2,15 +2,15 @@ use Rattle.std.proofs.Common.{arith}
 use Rattle.systems.proofs.Rows.{rows_none, rows_more}
 use Rattle.systems.proofs.stored_table.taking_up.read_chains.Goals as goal
 
-pub read-chain-requires : goal.read-chain-requires
-read-chain-requires c = record { sound = c.requires; below = omega arith; empty = λ e h. c.states.invariant.1.rest _ (omega arith) }
+pub read_chain-requires : goal.read_chain-requires
+read_chain-requires c = record { sound = c.requires; below = omega arith; empty = λ e h. c.states.invariant.1.rest _ (omega arith) }
 
 pub states-init : goal.states-init
 states-init c = (omega arith, rows_none _)
 
 pub states-preserved : goal.states-preserved
 states-preserved c =
-    (c.type-inv.steps, rows_more _ _ _ _ c.states.invariant.1 c.read-chain.ensures.row c.read-chain.ensures.others)
+    (c.type_inv.steps, rows_more _ _ _ _ c.states.invariant.1 c.read_chain.ensures.row c.read_chain.ensures.others)
 
 pub returns : goal.returns
 returns c =
