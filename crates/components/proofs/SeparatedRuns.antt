@@ -1,8 +1,8 @@
 -- The runs of a duty monitor: those in which nobody acts in both activities.
-use Rattle.std.proofs.Common.{◌≡◌, ℕ, ◌+◌, ◌-◌, ◌*◌, ◌/◌, ◌%◌, ◌^◌, ◌<◌, ◌≤◌, ◌≢◌, ◌⊎◌, ◌↔◌, List, [], ◌∷◌, Some, None, sym, refl, ap, ◌∙◌, subst, inl, inr, arith}
+use Rattle.std.proofs.Common.{◌≡◌, ℕ, ◌+◌, ◌-◌, ◌/◌, ◌%◌, ◌^◌, ◌<◌, ◌≤◌, ◌⊎◌, List, [], ◌∷◌, sym, refl, ap, ◌∙◌, subst, inl, inr, arith}
 use native.Mathlib.Nat.{zero-div, one-le-pow}
 use Rattle.std.proofs.lemmas.Bool.{cases_eq}
-use Rattle.std.specs.List.{AllByRecursion as All}
+use Rattle.std.specs.List.{AllByRecursion}
 use Rattle.systems.specs.Machine.{Machine}
 use Rattle.systems.specs.Runs.{Leads, Run}
 use Rattle.components.specs.Duties.{users_of, entry_of, ActOf, ActsIn, Separated, digit, Acted, Monitors, RunsSeparated}
@@ -19,7 +19,7 @@ abbrev SeparatedFrom : List ℕ → ℕ → List ℕ → Type 0
 SeparatedFrom bs s es = (u : ℕ) → Acts bs s es u 0 → Acts bs s es u 1 → ⊥
 
 abbrev Events : List ℕ → List ℕ → Type 0
-Events bs = All (λ e. 1 ≤ entry_of bs e)
+Events bs = AllByRecursion (λ e. 1 ≤ entry_of bs e)
 
 -- what is acted in an event and what follows is acted before the state that the event leads to, or in what follows
 module _ (bs : List ℕ) (s e u x t : ℕ) (is : ActOf bs e u x) (a : Acted s u x t) (es : List ℕ) (v y : ℕ) where

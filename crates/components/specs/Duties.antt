@@ -1,6 +1,6 @@
 -- The duty monitor: the layout of its bytes, what its states keep, and which runs it has.
 use Rattle.std.specs.Prelude.{◌≡◌, ℕ, ◌+◌, ◌*◌, ◌/◌, ◌%◌, ◌^◌, ◌<◌, ◌≤◌, ◌≢◌, ◌⊎◌, ◌↔◌, List, [], ◌∷◌, Some, slice_index}
-use Rattle.std.specs.List.{AllByRecursion as All}
+use Rattle.std.specs.List.{AllByRecursion}
 use Rattle.systems.specs.Machine.{Machine}
 use Rattle.systems.specs.Runs.{Run}
 use Rattle.systems.specs.declared.system.Role.TheVariants.{Absent, Input}
@@ -48,4 +48,4 @@ pub record Monitors (bs : List ℕ) (m : Machine) : Type 0 where
 
 -- the machine's runs are exactly the lists of its events in which nobody acts in both activities
 abbrev pub RunsSeparated : List ℕ → Machine → Type 0
-RunsSeparated bs m = (es : List ℕ) → Run m es ↔ (All (λ e. 1 ≤ entry_of bs e) es × Separated bs es)
+RunsSeparated bs m = (es : List ℕ) → Run m es ↔ (AllByRecursion (λ e. 1 ≤ entry_of bs e) es × Separated bs es)

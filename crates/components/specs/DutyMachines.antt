@@ -1,13 +1,12 @@
 -- The machine of duty entries: its rules, what it means, and when it is bare.
-use Rattle.std.specs.Prelude.{◌≡◌, ℕ, ◌+◌, ◌-◌, ◌*◌, ◌/◌, ◌%◌, ◌^◌, ◌<◌, ◌≤◌, ◌⊎◌, ◌↔◌, List, Some, None, slice_index, refl}
-use Rattle.std.proofs.Common.{sym, ap, subst, ◌∙◌, inl, inr, arith}
+use Rattle.std.specs.Prelude.{◌≡◌, ℕ, ◌-◌, ◌*◌, ◌/◌, ◌%◌, ◌^◌, ◌<◌, ◌≤◌, List, Some, slice_index, refl}
+use Rattle.std.proofs.Common.{sym, subst, ◌∙◌, arith}
 use Rattle.std.proofs.Math.Nat.{one-le-pow, pow-le-pow_right}
 use Rattle.std.proofs.lemmas.Bool.{ne_eqb, lt-ltb}
 use Rattle.std.proofs.lemmas.Bool.Decides.{nat_tests}
 use Rattle.systems.specs.Machine.{Machine, Lawful, bare}
-use Rattle.systems.specs.declared.system.Role.TheVariants.{Absent, Input}
 use Rattle.systems.proofs.Machines.{same_machine}
-use Rattle.components.specs.Duties.{users_of, entry_of, ActOf, Acted, Monitors}
+use Rattle.components.specs.Duties.{users_of, entry_of, ActOf, Monitors}
 use Rattle.components.specs.DutyFaults.{Sound}
 use Rattle.components.specs.Monitors.{marked, entry_step, duty_machine, entry_at, EntriesRead}
 use Rattle.components.specs.SoundEntries.{entry_same}

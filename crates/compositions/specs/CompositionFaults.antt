@@ -1,7 +1,7 @@
 -- What can keep two systems from being composed: each fault's number, place and condition.
 use Rattle.std.specs.Prelude.{◌≡◌, ℕ, ◌*◌, ◌<◌, ◌≤◌, Bool, true, false, ◌⊎◌, Result, MatchResult, ◌≢◌}
 use Rattle.systems.specs.Faults.{Before, First, NoFault, Checked, TakenUp}
-use Rattle.systems.specs.Machine.{Machine, EventOf}
+use Rattle.systems.specs.Machine.{Machine}
 use Rattle.systems.specs.declared.system.Role.{Role}
 use Rattle.systems.specs.declared.system.Role.TheVariants.{Absent, Input, Output}
 use Rattle.compositions.specs.Composing.{Composes, RunsByShares}

@@ -1,6 +1,6 @@
 -- A system with some events shut: what it is, and which runs it has.
 use Rattle.std.specs.Prelude.{◌≡◌, ℕ, Bool, false, cond, ◌↔◌, List, None}
-use Rattle.std.specs.List.{AllByRecursion as All}
+use Rattle.std.specs.List.{AllByRecursion}
 use Rattle.systems.specs.Machine.{Machine}
 use Rattle.systems.specs.Runs.{Run}
 
@@ -15,4 +15,4 @@ restricted shut m = record {
 
 -- the runs of c are exactly the runs of m that hold no shut event
 abbrev pub RunsUnshut : (ℕ → Bool) → Machine → Machine → Type 0
-RunsUnshut shut m c = (es : List ℕ) → Run c es ↔ (Run m es × All (λ e. shut e ≡ false) es)
+RunsUnshut shut m c = (es : List ℕ) → Run c es ↔ (Run m es × AllByRecursion (λ e. shut e ≡ false) es)

@@ -1,6 +1,6 @@
 -- A system with some events shut: its steps, its rules and its runs.
 use Rattle.std.specs.Prelude.{◌≡◌, ℕ, Bool, true, false, cond, List, [], ◌∷◌, Some, None, Option, refl}
-use Rattle.std.specs.List.{AllByRecursion as All}
+use Rattle.std.specs.List.{AllByRecursion}
 use Rattle.systems.specs.Machine.{Machine, Lawful}
 use Rattle.systems.specs.Runs.{Leads}
 use Rattle.systems.proofs.Machines.{none_some}
@@ -26,14 +26,14 @@ module _ (shut : ℕ → Bool) (m : Machine) where
         takes_part = λ s e t h. w.takes_part s e t (step_below s e t h).1;
       }
 
-  leads_below : (es : List ℕ) (s t : ℕ) → Leads (restricted shut m) s es t → Leads m s es t × All (λ e. shut e ≡ false) es
+  leads_below : (es : List ℕ) (s t : ℕ) → Leads (restricted shut m) s es t → Leads m s es t × AllByRecursion (λ e. shut e ≡ false) es
   leads_below [] s t l = (l, tt)
   leads_below (e ∷ es) s t (u, (h, l)) =
       let (free, step) = step_below s e u h in
       let (below, frees) = leads_below es u t l in
       ((u, (step, below)), (free, frees))
 
-  leads_above : (es : List ℕ) (s t : ℕ) → Leads m s es t → All (λ e. shut e ≡ false) es → Leads (restricted shut m) s es t
+  leads_above : (es : List ℕ) (s t : ℕ) → Leads m s es t → AllByRecursion (λ e. shut e ≡ false) es → Leads (restricted shut m) s es t
   leads_above [] s t l frees = l
   leads_above (e ∷ es) s t (u, (h, l)) (free, frees) = (u, (rw free h, leads_above es u t l frees))
 

@@ -1,3 +1,5 @@
 // Systems made of systems.
+#![tactic(auto)]
+
 pub mod composition;
 pub mod restriction;

@@ -1,4 +1,6 @@
 // flowclear: a bundle on standard input, what it holds on standard output.
+#![tactic(auto)]
+
 use anyhow::anyhow;
 use notices::inspection::{Finding, inspect};
 use std::io::Read;

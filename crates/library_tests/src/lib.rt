@@ -1,4 +1,6 @@
 // Tests of the library's crates, apart from them so that none is proved twice.
+#![tactic(auto)]
+
 #[cfg(test)]
 mod bundles;
 #[cfg(test)]

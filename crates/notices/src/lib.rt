@@ -1,4 +1,6 @@
 // Bundles in, and what they hold.
+#![tactic(auto)]
+
 pub mod bundle;
 pub mod fault;
 pub mod inspection;

@@ -1,4 +1,6 @@
 // Holds what is found in bundles to the notices that an independent program wrote of them.
+#![tactic(auto)]
+
 use notices::inspection::{Finding, inspect};
 use std::{env, fs};
 

@@ -4,7 +4,8 @@ use Rattle.components.proofs.SeparatedRuns.{runs_separated}
 use Rattle.components.proofs.duty.taking_up.read_monitor.Goals as goal
 
 pub invariant_of-result : goal.invariant_of-result
-invariant_of-result c = (c.requires.most, (read_known c.args.bytes.now c.requires _ c.read_entries-entries.ensures, tt))
+invariant_of-result c =
+    record { few = c.requires.most; known = read_known c.args.bytes.now c.requires _ c.read_entries-entries.ensures }
 
 pub returns : goal.returns
 returns c =
