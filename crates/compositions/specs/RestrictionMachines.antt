@@ -5,4 +5,4 @@ use Rattle.compositions.specs.Restrictions.{restricted}
 use Rattle.compositions.specs.declared.restriction.parts.Restriction.{Restriction}
 
 abbrev pub restriction_machine : {S : Type 0} → (S → Machine) → Restriction S → Machine
-restriction_machine below-is r = restricted (allows r.shut) (below-is r.below)
+restriction_machine below_is r = restricted (allows r.shut) (below_is r.below)

@@ -4,16 +4,20 @@
 use anyhow::anyhow;
 use notices::inspection::{Finding, inspect};
 use std::io::Read;
+use std::process::ExitCode;
 
 // What follows in a longer input is not read.
 const LONGEST_BUNDLE: u64 = 65536;
 
-fn main(rt: HostRuntime) -> anyhow::Result<()> {
-    let result = tell(&rt);
-    if let Err(error) = &result {
-        eprintln!(rt; "flowclear: {error}")?;
+fn main(rt: HostRuntime) -> ExitCode {
+    match tell(&rt) {
+        Ok(()) => ExitCode::SUCCESS,
+        Err(error) => {
+            // Where this cannot be written either, the status alone tells.
+            let _ = eprintln!(rt; "flowclear: {error}");
+            ExitCode::FAILURE
+        }
     }
-    result
 }
 
 fn tell(rt: &HostRuntime) -> anyhow::Result<()> {

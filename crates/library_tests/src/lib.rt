@@ -4,7 +4,7 @@
 #[cfg(test)]
 mod bundles;
 #[cfg(test)]
-mod compositions;
+mod composed_systems;
 #[cfg(test)]
 mod duty_monitors;
 #[cfg(test)]
