@@ -8,7 +8,7 @@ use crate::system::{Role, System};
 impl System for Chart {
     ghost machine = { chart_machine };
 
-    ghost lawful = { first_of (Prim.search rules, Prim.grind (arith, Self.row.coded.inj)) };
+    ghost lawful = { Prim.first_of (Prim.search rules, Prim.grind (arith, Self.row.coded.inj)) };
 
     fn count(&self) -> u16 {
         self.count
