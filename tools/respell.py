@@ -5,8 +5,8 @@ usage: python3 tools/respell.py        at the top of the repository, once, right
 
 A name with dashes that is declared in specs/ or proofs/ gets underscores, wherever it is cited: in specs/, in proofs/, in the clauses of
 src/ and in the edits. Lemmas about the bits of a number keep their dash (`bit-and` is the lemma on `bit` and `bit_and`): without it they
-would fall together with the library's words. Functions of src/, strings, inputs and outputs are not touched.
-It stops, and writes nothing, where two names would fall together.
+would fall together with the library's words. Functions of src/ have no dashes, and inputs and outputs are not read.
+It stops, and writes nothing, where two new names would be the same. Where a file has the new name already it says so in a line 'look:'.
 """
 
 import pathlib
