@@ -1,1 +1,3 @@
+pub mod Digits
 pub mod SeparatedRuns
+pub mod Meanings

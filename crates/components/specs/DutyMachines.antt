@@ -1,76 +1,70 @@
--- The machine of duty entries: its rules, what it means, and when it is bare.
-use Rattle.std.specs.Prelude.{◌≡◌, ℕ, ◌-◌, ◌*◌, ◌/◌, ◌%◌, ◌^◌, ◌<◌, ◌≤◌, List, Some, slice_index, refl}
-use Rattle.std.proofs.Common.{sym, subst, ◌∙◌, arith}
-use Rattle.std.proofs.Math.Nat.{one-le-pow, pow-le-pow_right}
-use Rattle.std.proofs.lemmas.Bool.{ne_eqb, lt-ltb}
+-- The rules of a system, for the machine of a duty monitor.
+use Rattle.std.specs.Prelude.{◌≡◌, ℕ, suc, ◌+◌, ◌-◌, ◌*◌, ◌/◌, ◌^◌, ◌<◌, ◌≤◌, ◌≢◌, List, Some, None, Option, length}
+use Rattle.std.specs.Option.{ForSome}
+use Rattle.std.proofs.Common.{ap, arith}
+use Rattle.std.proofs.Math.Nat.{one-le-pow, pow-le-pow_right, add-mul-div_right, div-lt_iff_lt-mul}
+use Rattle.std.proofs.lemmas.Nat.{pow-add}
+use Rattle.std.proofs.lemmas.List.{get_or_past}
 use Rattle.std.proofs.lemmas.Bool.Decides.{nat_tests}
-use Rattle.systems.specs.Machine.{Machine, Lawful, bare}
-use Rattle.systems.proofs.Machines.{same_machine}
-use Rattle.components.specs.Duties.{users_of, entry_of, ActOf, Monitors}
-use Rattle.components.specs.DutyFaults.{Sound}
-use Rattle.components.specs.Monitors.{marked, entry_step, duty_machine, entry_at, EntriesRead}
-use Rattle.components.specs.SoundEntries.{entry_same}
-use Rattle.components.specs.Marks.{marked_acted, acted_marked, marked_below}
+use Rattle.systems.specs.Machine.{Lawful}
+use Rattle.systems.specs.declared.system.Role.TheVariants.{Absent}
+use Rattle.components.specs.Duties.{digit}
+use Rattle.components.specs.Acts.{activity_number, act_at, ActsKnown}
+use Rattle.components.specs.Monitors.{marked, act_role, act_step, duty_machine}
+use Rattle.components.specs.declared.duty.act.Activity.{Activity}
+use Rattle.components.specs.declared.duty.act.Activity.TheVariants.{First, Second}
+use Rattle.components.specs.declared.duty.act.Act.{Act}
 
--- what a step shows
-record Stepped (users s n t : ℕ) : Type 0 where
-  entry : 1 ≤ n
-  state : s < 3 ^ users
-  marks : marked s ((n - 1) / 2) ((n - 1) % 2) ≡ Some t
+pub some_states : (n : ℕ) → 1 ≤ 3 ^ n
+some_states n = one-le-pow n 3 (omega arith)
 
-stepped : (users s n t : ℕ) → entry_step users s n ≡ Some t → Stepped users s n t
-stepped users s n t p = record { entry = grind (arith, nat_tests); state = grind (arith, nat_tests); marks = grind (arith, nat_tests) }
+-- five users have 243 states, and fewer users no more
+pub few_states : (n : ℕ) → n ≤ 5 → 3 ^ n ≤ 243
+few_states n h = pow-le-pow_right {n = 3} (omega arith) {i = n} {j = 5} h
 
-module _ (users : ℕ) (few : users ≤ 5) (entry : ℕ → ℕ) (known : (e : ℕ) → entry e ≤ 2 * users) (none : (e : ℕ) → 64 ≤ e → entry e ≡ 0) where
-  pub duty_lawful : Lawful (duty_machine users entry)
+-- the weights of a higher place and of a lower one
+pub place : (k u : ℕ) → u < k → 3 ^ k ≡ 3 ^ (k - suc u) * 3 * 3 ^ u
+place k u h = grind (arith, pow-add 3 (k - suc u + 1) u, pow-add 3 (k - suc u) 1)
+
+-- a number keeps below a power of 3 where its digit of a lower weight is 0 and becomes c
+added_below : (c k u s : ℕ) → c < 3 → u < k → digit s u ≡ 0 → s < 3 ^ k → s + c * 3 ^ u < 3 ^ k
+added_below c k u s small h z l =
+    let e = place k u h in
+    let q : s / 3 ^ u < 3 ^ (k - suc u) * 3 = (div-lt_iff_lt-mul (some_states u)).1 (omega arith) in
+    let d = add-mul-div_right s c (some_states u) in
+    let r : s + c * 3 ^ u < 3 ^ (k - suc u) * 3 * 3 ^ u = (div-lt_iff_lt-mul (some_states u)).0 (omega arith) in
+    omega arith
+
+-- the same where five users have the states
+pub room : (s c u : ℕ) → c < 3 → u < 5 → digit s u ≡ 0 → s < 243 → s + c * 3 ^ u < 243
+room s c u small h z l = added_below c 5 u s small h z l
+
+-- there are two activities
+pub two : (x : Activity) → activity_number x < 2
+two First = omega arith
+two Second = omega arith
+
+marked_below : (s u x k t : ℕ) → x < 2 → u < k → s < 3 ^ k → marked s u x ≡ Some t → t < 3 ^ k
+marked_below s u x k t small h l p =
+    let b : digit s u ≡ 0 → s + (1 + x) * 3 ^ u < 3 ^ k = λ z. added_below (1 + x) k u s (omega arith) h z l in
+    grind (arith, nat_tests)
+
+-- a step leads from a state to a state, by an event
+step_rules : (users s t : ℕ) (o : Option Act) → ForSome o (λ a. a.user < users) → act_step users s o ≡ Some t
+    → (s < 3 ^ users) × (t < 3 ^ users) × (act_role o ≢ Absent)
+step_rules users s t o known p = grind (arith, nat_tests, two, marked_below)
+
+module _ (users : ℕ) (few : users ≤ 5) (acts : List (Option Act)) (long : length acts ≤ 64) (known : ActsKnown users acts) where
+  pub duty_lawful : Lawful (duty_machine users (act_at acts))
   duty_lawful =
-      let p : 3 ^ users ≤ 243 = pow-le-pow_right {n = 3} (omega arith) {i = users} {j = 5} few in
-      let q : 1 ≤ 3 ^ users = one-le-pow users 3 (omega arith) in
+      let p = few_states users few in
+      let q = some_states users in
       record {
         count_least = q;
         count_most = omega arith;
         first_below = omega arith;
-        event_below = λ e h. rw (none e h) refl;
-        next_below = λ s e t h.
-            let w = stepped users s (entry e) t h in
-            marked_below s ((entry e - 1) / 2) ((entry e - 1) % 2) (omega arith) users t (omega (arith, known e)) w.state w.marks;
-        state_below = λ s e t h. (stepped users s (entry e) t h).state;
-        takes_part = λ s e t h a. let w = stepped users s (entry e) t h in grind (arith, nat_tests);
+        event_below = λ e h. ap act_role (get_or_past acts e None (omega arith));
+        next_below = λ s e t h. (step_rules users s t (act_at acts e) (known e) h).1;
+        state_below = λ s e t h. (step_rules users s t (act_at acts e) (known e) h).0;
+        takes_part = λ s e t h. (step_rules users s t (act_at acts e) (known e) h).2;
       }
-
-module _ (bs : List ℕ) where
-  abbrev machine : Machine
-  machine = duty_machine (users_of bs) (entry_of bs)
-
-  step_is : (s e u x : ℕ) → s < 3 ^ users_of bs → ActOf bs e u x → machine.step s e ≡ marked s u x
-  step_is s e u x l (two, is) =
-      let n = entry_of bs e in
-      let p : (n - 1) / 2 ≡ u = omega arith in
-      let q : (n - 1) % 2 ≡ x = omega arith in
-      rw (ne_eqb n 0 (omega arith), lt-ltb s (3 ^ users_of bs) l, p, q) refl
-
-  duty_monitors : Monitors bs (duty_machine (users_of bs) (entry_of bs))
-  duty_monitors =
-      record {
-        count = refl;
-        first = refl;
-        input = λ e h. grind (arith, nat_tests);
-        absent = λ e h. rw h refl;
-        step = λ s e u x t l a. (
-          λ p. marked_acted s u x a.0 t (sym (step_is s e u x l a) ∙ p),
-          λ p. step_is s e u x l a ∙ acted_marked s u x a.0 t p,
-        );
-        no_act = λ s e t h p. let w = stepped (users_of bs) s (entry_of bs e) t p in omega (arith, w.entry);
-        no_state = λ s e t h p. let w = stepped (users_of bs) s (entry_of bs e) t p in omega (arith, w.state);
-      }
-
-pub read_monitors : (bs : List ℕ) (sound : Sound bs) (entries : List ℕ) → EntriesRead bs entries
-    → Monitors bs (duty_machine (users_of bs) (entry_at entries))
-read_monitors bs sound entries read =
-    subst (λ (f : ℕ → ℕ). Monitors bs (duty_machine (users_of bs) f)) (λ i e. sym (entry_same bs sound entries read e) i) (duty_monitors bs)
-
-pub duty_bare : (entries : List ℕ) → ((e : ℕ) → slice_index entries e ≡ 0) → duty_machine 0 (entry_at entries) ≡ bare
-duty_bare entries none = same_machine _ _ refl refl (λ e. rw (no_entry e) refl) (λ s e. rw (no_entry e) refl)
-  where
-    no_entry : (e : ℕ) → entry_at entries e ≡ 0
-    no_entry e = let z = none e in grind (arith, nat_tests)

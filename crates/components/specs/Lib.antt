@@ -1,9 +1,7 @@
 -- The duty monitor, in reading order.
 pub mod Duties
 pub mod DutyFaults
-pub mod Entries
+pub mod Acts
+pub mod Reading
 pub mod Monitors
 pub mod DutyMachines
-pub mod SoundEntries
-pub mod Marks
-pub mod Ternary

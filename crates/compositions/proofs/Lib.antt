@@ -1,3 +1,3 @@
-pub mod Faultless
+pub mod Composites
 pub mod CompositeRuns
-pub mod TakenUpCompositions
+pub mod RestrictedRuns

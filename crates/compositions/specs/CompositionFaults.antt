@@ -1,5 +1,5 @@
 -- What can keep two systems from being composed: each fault's number, place and condition.
-use Rattle.std.specs.Prelude.{◌≡◌, ℕ, ◌*◌, ◌<◌, ◌≤◌, Bool, true, false, ◌⊎◌, Result, MatchResult, ◌≢◌}
+use Rattle.std.specs.Prelude.{◌≡◌, ℕ, ◌*◌, ◌<◌, ◌⊎◌, Result, ◌≢◌}
 use Rattle.systems.specs.Faults.{Before, First, NoFault, Checked, TakenUp}
 use Rattle.systems.specs.Machine.{Machine}
 use Rattle.systems.specs.declared.system.Role.{Role}
@@ -47,12 +47,3 @@ CompositionTakenUp m n = TakenUp (CompositionFaulty m n) (Composes m n)
 -- which runs it then has: where the parts have no fault, those of which each part's share is a run of that part
 abbrev pub CompositionRuns : Machine → Machine → Machine → Type 0
 CompositionRuns m n c = NoFault (CompositionFaulty m n) → RunsByShares m n c
-
--- what the check of the count leaves known
-abbrev pub CountPasses : Machine → Machine → Result (Unit {0}) CompositionFault → Type 0
-CountPasses m n r = MatchResult r (λ _. m.count * n.count ≤ 256) (FirstCompositionFault m n)
-
--- what the whole check leaves known: that there is no fault, or one
-abbrev pub Verdict : Machine → Machine → Bool → Type 0
-Verdict m n true = NoFault (CompositionFaulty m n)
-Verdict m n false = (f : CompositionFault) × CompositionFaulty m n f

@@ -2,11 +2,6 @@
 pub mod Composing
 pub mod CompositionFaults
 pub mod Grids
+pub mod Arranging
 pub mod CompositionMachines
 pub mod Restrictions
-pub mod RestrictionMachines
-pub mod CompositeLaws
-pub mod Numbering
-pub mod Moves
-pub mod Composites
-pub mod Unshut

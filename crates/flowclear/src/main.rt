@@ -1,8 +1,7 @@
 // flowclear: a bundle on standard input, what it holds on standard output.
 #![tactic(auto)]
 
-use anyhow::anyhow;
-use notices::inspection::{Finding, inspect};
+use notices::inspection::{InspectError, inspect};
 use std::io::Read;
 use std::process::ExitCode;
 
@@ -23,10 +22,10 @@ fn main(rt: HostRuntime) -> ExitCode {
 fn tell(rt: &HostRuntime) -> anyhow::Result<()> {
     let mut bundle = Vec::new(rt.alloc());
     rt.stdin().take(LONGEST_BUNDLE).read_to_end(&mut bundle)?;
-    let finding = inspect(bundle.as_slice());
-    match finding {
-        Finding::Sound { .. } | Finding::Refused(_) => println!(rt; "{finding}")?,
-        Finding::Duty(_) => return Err(anyhow!(format!(in rt.alloc(); "{finding}")?)),
+    match inspect(bundle.as_slice()) {
+        Ok(counts) => println!(rt; "{counts}")?,
+        Err(InspectError::Fault(fault)) => println!(rt; "{fault}")?,
+        Err(unread) => return Err(anyhow::Error::from(unread)),
     }
     Ok(())
 }

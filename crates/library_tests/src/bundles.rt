@@ -5,6 +5,7 @@ use notices::inspection::inspect;
 use std::alloc::Global;
 use std::process::Abort;
 use std::test::Fail;
+use systems::fault::Fault;
 
 // All events neutral, around the sample table.
 fn steady_bundle() -> [u8; 167] {
@@ -12,13 +13,12 @@ fn steady_bundle() -> [u8; 167] {
     bundle[64] = b'\n';
     bundle[65] = 100;
     bundle[66] = 0;
-    for i in 0..100usize {
-        bundle[67 + i] = STEADY[i];
-    }
+    bundle[67..].copy_from_slice(&STEADY);
     bundle
 }
 
-// The number, part and place of the refusal; zeros where the bundle passes.
+// The number, part and place of the refusal; zeros where the bundle passes. (Only a bundle's fault
+// has a part.)
 fn refusal(bundle: &[u8]) -> (u8, u8, u16) {
     match check_bundle(bundle) {
         Ok(()) => (0, 0, 0),
@@ -27,8 +27,10 @@ fn refusal(bundle: &[u8]) -> (u8, u8, u16) {
 }
 
 fn expect_line(rt: &impl Abort, heap: Global, bundle: &[u8], wanted: &str) -> Result<(), Fail> {
-    let finding = inspect(bundle);
-    let line = format!(in heap; "{finding}")?;
+    let line = match inspect(bundle) {
+        Ok(counts) => format!(in heap; "{counts}")?,
+        Err(error) => format!(in heap; "{error}")?,
+    };
     assert!(rt; line.as_str() == wanted);
     Ok(())
 }

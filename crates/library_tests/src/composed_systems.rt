@@ -1,5 +1,5 @@
 // Compositions: refusals in their order, who moves by which event, and piles of them.
-use crate::samples::{STEADY, two_users};
+use crate::samples::{STEADY, refusal, two_users};
 use components::duty;
 use compositions::composition::{check as check_composition, take_up};
 use compositions::restriction;
@@ -8,14 +8,6 @@ use systems::stored_table;
 use systems::system::{Role, System};
 use unwinding::event_set::EventSet;
 use unwinding::reach::reached_count;
-
-// The number and place of the refusal; zeros where the two pass.
-fn refusal<L: System, R: System>(left: &L, right: &R) -> (u8, u16) {
-    match check_composition(left, right) {
-        Ok(()) => (0, 0),
-        Err(fault) => (fault.number(), fault.place()),
-    }
-}
 
 // A monitor of so many users with one act of user 0, in activity 0.
 fn monitor_of(users: u8, event: u8) -> duty::monitor::DutyMonitor {
@@ -31,26 +23,30 @@ fn monitor_of(users: u8, event: u8) -> duty::monitor::DutyMonitor {
 fn states_are_counted_before_roles(rt: HostRuntime) {
     let table = stored_table::take_up(&STEADY);
     assert_eq!(rt;
-        refusal(&table, &monitor_of(1, 0)),
+        refusal(check_composition(&table, &monitor_of(1, 0))),
         (0, 0),
         "output beside input"
     );
     assert_eq!(rt;
-        refusal(&monitor_of(1, 0), &table),
+        refusal(check_composition(&monitor_of(1, 0), &table)),
         (0, 0),
         "input beside output"
     );
     assert_eq!(rt;
-        refusal(&table, &monitor_of(1, 1)),
+        refusal(check_composition(&table, &monitor_of(1, 1))),
         (19, 1),
         "internal beside input"
     );
     assert_eq!(rt;
-        refusal(&table, &monitor_of(4, 2)),
+        refusal(check_composition(&table, &monitor_of(4, 2))),
         (19, 2),
         "input beside input, 243 states"
     );
-    assert_eq!(rt; refusal(&table, &monitor_of(5, 2)), (18, 0), "729 states");
+    assert_eq!(rt;
+        refusal(check_composition(&table, &monitor_of(5, 2))),
+        (18, 0),
+        "729 states"
+    );
 }
 
 #[test]

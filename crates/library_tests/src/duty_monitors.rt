@@ -1,30 +1,26 @@
 // Duty monitors: refusals in their order, and who can act after whom.
-use crate::samples::two_users;
+use crate::samples::{refusal, two_users};
 use components::duty::{check as check_duty, take_up};
 use systems::system::{Role, System};
-
-// The number and place of the refusal; zeros where the bytes pass.
-fn refusal(duty: &[u8]) -> (u8, u16) {
-    match check_duty(duty) {
-        Ok(()) => (0, 0),
-        Err(fault) => (fault.number(), fault.place()),
-    }
-}
 
 #[test]
 fn duty_faults_go_by_number(rt: HostRuntime) {
     let mut duty = two_users();
-    assert_eq!(rt; refusal(&duty), (0, 0));
+    assert_eq!(rt; refusal(check_duty(&duty)), (0, 0));
     duty[64] = 5;
-    assert_eq!(rt; refusal(&duty), (17, 63), "user 2 of 2");
+    assert_eq!(rt; refusal(check_duty(&duty)), (17, 63), "user 2 of 2");
     duty[1] = 255;
-    assert_eq!(rt; refusal(&duty), (17, 0), "the lowest entry");
+    assert_eq!(rt; refusal(check_duty(&duty)), (17, 0), "the lowest entry");
     duty[0] = 0;
-    assert_eq!(rt; refusal(&duty), (16, 0), "users before entries");
+    assert_eq!(rt; refusal(check_duty(&duty)), (16, 0), "users before entries");
     duty[0] = 6;
-    assert_eq!(rt; refusal(&duty), (16, 0), "too many users");
-    assert_eq!(rt; refusal(&duty[0..64]), (15, 0), "length before users");
-    assert_eq!(rt; refusal(&[]), (15, 0));
+    assert_eq!(rt; refusal(check_duty(&duty)), (16, 0), "too many users");
+    assert_eq!(rt;
+        refusal(check_duty(&duty[0..64])),
+        (15, 0),
+        "length before users"
+    );
+    assert_eq!(rt; refusal(check_duty(&[])), (15, 0));
 }
 
 #[test]

@@ -1,4 +1,5 @@
 // Samples that the tests share.
+use systems::fault::Fault;
 
 // Three states and the events 0, 1 and 2; state 0 has the chain of records 1 and 2.
 #[rattlefmt::skip]
@@ -28,4 +29,12 @@ pub(crate) fn two_users() -> [u8; 65] {
     duty[13] = 3;
     duty[14] = 4;
     duty
+}
+
+// The number and place of the refusal; zeros, which no refusal has, where a check passes.
+pub(crate) fn refusal<F: Fault + Drop>(checked: Result<(), F>) -> (u8, u16) {
+    match checked {
+        Ok(()) => (0, 0),
+        Err(fault) => (fault.number(), fault.place()),
+    }
 }

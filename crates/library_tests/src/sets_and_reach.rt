@@ -2,7 +2,7 @@
 use crate::samples::STEADY;
 use systems::chart::Chart;
 use systems::stored_table::take_up;
-use unwinding::class::Class;
+use unwinding::class::{Class, UnknownLetter};
 use unwinding::event_set::EventSet;
 use unwinding::reach::{closure, reached, reached_count};
 use unwinding::state_set::StateSet;
@@ -29,11 +29,51 @@ fn event_sets_hold_the_events_below_64(rt: HostRuntime) {
 }
 
 #[test]
+fn event_sets_count_and_compare(rt: HostRuntime) {
+    let mut set = EventSet::none();
+    set.insert(63);
+    set.insert(64);
+    set.insert(255);
+    assert_eq!(rt; set.len(), 1);
+    assert_eq!(rt; EventSet::none().len(), 0);
+    assert_eq!(rt; EventSet::all().len(), 64);
+    assert_eq!(rt; set.lowest_outside(&EventSet::none()), Some(63));
+    assert_eq!(rt; EventSet::all().lowest_outside(&set), Some(0));
+    assert_eq!(rt; set.lowest_outside(&EventSet::all()), None);
+}
+
+#[test]
+fn state_sets_hold_each_words_first_and_last(rt: HostRuntime) {
+    let mut set = StateSet::empty();
+    set.insert(64);
+    set.insert(63);
+    assert!(rt; set.contains(63) && set.contains(64) && !set.contains(255));
+    let smaller = set;
+    set.insert(255);
+    assert!(rt; set.contains(255) && !set.contains(191) && !set.contains(0));
+    assert_eq!(rt; set.len(), 3);
+    assert_eq!(rt; set.lowest_outside(&StateSet::empty()), Some(63));
+    assert_eq!(rt; set.lowest_outside(&smaller), Some(255));
+    set.insert(255);
+    assert_eq!(rt; set.len(), 3);
+}
+
+#[test]
+fn sets_with_the_same_numbers_are_equal(rt: HostRuntime) {
+    let mut one = StateSet::empty();
+    one.insert(200);
+    let mut other = StateSet::empty();
+    assert!(rt; one != other);
+    other.insert(200);
+    assert!(rt; one == other && EventSet::none() != EventSet::all());
+}
+
+#[test]
 fn letters_name_classes(rt: HostRuntime) {
-    assert_eq!(rt; Class::from_letter(b'V'), Some(Class::Visible));
-    assert_eq!(rt; Class::from_letter(b'N'), Some(Class::Neutral));
-    assert_eq!(rt; Class::from_letter(b'C'), Some(Class::Confidential));
-    assert_eq!(rt; Class::from_letter(b'c'), None);
+    assert_eq!(rt; Class::try_from(b'V'), Ok(Class::Visible));
+    assert_eq!(rt; Class::try_from(b'N'), Ok(Class::Neutral));
+    assert_eq!(rt; Class::try_from(b'C'), Ok(Class::Confidential));
+    assert_eq!(rt; Class::try_from(b'c'), Err(UnknownLetter(b'c')));
 }
 
 #[test]

@@ -1,8 +1,9 @@
 // Stored tables: refusals in their order, and what a table means.
-use crate::samples::STEADY;
+use crate::samples::{STEADY, refusal};
 use systems::chart::Chart;
-use systems::stored_table::{check as check_table, take_up};
-use systems::system::{Role, System};
+use systems::stored_table::fault::TableFault;
+use systems::stored_table::{check as check_table, read, take_up};
+use systems::system::{Role, System, UnknownRole};
 
 // Where the fields of STEADY lie.
 const COUNT: usize = 0;
@@ -29,40 +30,52 @@ const NEXT_2: usize = 86;
 
 const EVENT_3: usize = 88;
 
-// The number and place of the refusal; zeros where the table passes.
-fn refusal(table: &[u8]) -> (u8, u16) {
-    match check_table(table) {
-        Ok(()) => (0, 0),
-        Err(fault) => (fault.number(), fault.place()),
-    }
-}
-
 #[test]
 fn header_faults_go_by_number(rt: HostRuntime) {
     let mut table = STEADY;
-    assert_eq!(rt; refusal(&table), (0, 0));
+    assert_eq!(rt; refusal(check_table(&table)), (0, 0));
     table[ROLES + 9] = 4;
-    assert_eq!(rt; refusal(&table[0..99]), (9, 0), "length before role");
+    assert_eq!(rt;
+        refusal(check_table(&table[0..99])),
+        (9, 0),
+        "length before role"
+    );
     table[RECORDS + 1] = 33;
-    assert_eq!(rt; refusal(&table), (8, 0), "records before length");
+    assert_eq!(rt;
+        refusal(check_table(&table)),
+        (8, 0),
+        "records before length"
+    );
     table[FIRST] = 3;
-    assert_eq!(rt; refusal(&table), (7, 0), "first state before records");
+    assert_eq!(rt;
+        refusal(check_table(&table)),
+        (7, 0),
+        "first state before records"
+    );
     table[COUNT] = 0;
-    assert_eq!(rt; refusal(&table), (6, 0), "count before first state");
-    assert_eq!(rt; refusal(&table[0..69]), (5, 0), "shortness before count");
+    assert_eq!(rt;
+        refusal(check_table(&table)),
+        (6, 0),
+        "count before first state"
+    );
+    assert_eq!(rt;
+        refusal(check_table(&table[0..69])),
+        (5, 0),
+        "shortness before count"
+    );
 }
 
 #[test]
 fn fields_have_two_bytes(rt: HostRuntime) {
     let mut table = STEADY;
     table[COUNT + 1] = 2;
-    assert_eq!(rt; refusal(&table), (6, 0), "515 states");
+    assert_eq!(rt; refusal(check_table(&table)), (6, 0), "515 states");
     let mut table = STEADY;
     table[EVENT_1 + 1] = 1;
-    assert_eq!(rt; refusal(&table), (12, 1), "event 256");
+    assert_eq!(rt; refusal(check_table(&table)), (12, 1), "event 256");
     let mut table = STEADY;
     table[TARGET_1 + 1] = 1;
-    assert_eq!(rt; refusal(&table), (13, 1), "target 256");
+    assert_eq!(rt; refusal(check_table(&table)), (13, 1), "target 256");
 }
 
 #[test]
@@ -72,14 +85,14 @@ fn lowest_place_counts(rt: HostRuntime) {
     table[HEADS + 4] = 5;
     table[EVENT_1] = 3;
     assert_eq!(rt;
-        refusal(&table),
+        refusal(check_table(&table)),
         (11, 1),
         "head of state 1 before later ones and records"
     );
     table[ROLES + 63] = 255;
     table[ROLES + 5] = 4;
     assert_eq!(rt;
-        refusal(&table),
+        refusal(check_table(&table)),
         (10, 5),
         "role of event 5 before 63 and heads"
     );
@@ -91,32 +104,40 @@ fn records_are_checked_one_by_one(rt: HostRuntime) {
     table[EVENT_3] = 64;
     table[NEXT_2] = 5;
     assert_eq!(rt;
-        refusal(&table),
+        refusal(check_table(&table)),
         (14, 2),
         "record 2's next before record 3's event"
     );
     table[TARGET_2] = 3;
-    assert_eq!(rt; refusal(&table), (13, 2), "target before next");
+    assert_eq!(rt; refusal(check_table(&table)), (13, 2), "target before next");
     table[EVENT_2] = 3;
-    assert_eq!(rt; refusal(&table), (12, 2), "event of role 0 before target");
+    assert_eq!(rt;
+        refusal(check_table(&table)),
+        (12, 2),
+        "event of role 0 before target"
+    );
     table[NEXT_1] = 1;
-    assert_eq!(rt; refusal(&table), (14, 1), "a record that names itself");
+    assert_eq!(rt;
+        refusal(check_table(&table)),
+        (14, 1),
+        "a record that names itself"
+    );
 }
 
 #[test]
 fn events_rise_strictly_along_a_chain(rt: HostRuntime) {
     let mut table = STEADY;
     table[EVENT_2] = 0;
-    assert_eq!(rt; refusal(&table), (14, 1));
+    assert_eq!(rt; refusal(check_table(&table)), (14, 1));
 }
 
 #[test]
 fn unused_records_are_checked(rt: HostRuntime) {
     let mut table = STEADY;
     table[HEADS + 2] = 0;
-    assert_eq!(rt; refusal(&table), (0, 0));
+    assert_eq!(rt; refusal(check_table(&table)), (0, 0));
     table[EVENT_3] = 64;
-    assert_eq!(rt; refusal(&table), (12, 3));
+    assert_eq!(rt; refusal(check_table(&table)), (12, 3));
 }
 
 #[test]
@@ -162,8 +183,26 @@ fn refused_table_is_taken_up_bare(rt: HostRuntime) {
 fn count_may_be_256_and_not_257(rt: HostRuntime) {
     let mut table = [0u8; 584];
     table[COUNT + 1] = 1;
-    assert_eq!(rt; refusal(&table[0..582]), (0, 0));
+    assert_eq!(rt; refusal(check_table(&table[0..582])), (0, 0));
     assert_eq!(rt; take_up(&table[0..582]).count(), 256);
     table[COUNT] = 1;
-    assert_eq!(rt; refusal(&table), (6, 0));
+    assert_eq!(rt; refusal(check_table(&table)), (6, 0));
+}
+
+#[test]
+fn reading_gives_the_chart_or_the_first_fault(rt: HostRuntime) {
+    let counts = read(&STEADY).map(|chart| (chart.count(), chart.first()));
+    assert_eq!(rt; counts, Ok((3, 0)));
+    let mut table = STEADY;
+    table[ROLES + 9] = 4;
+    let counts = read(&table).map(|chart| (chart.count(), chart.first()));
+    assert_eq!(rt; counts, Err(TableFault::Role(9)));
+}
+
+#[test]
+fn roles_are_numbered_from_0_to_3(rt: HostRuntime) {
+    assert_eq!(rt; Role::try_from(0), Ok(Role::Absent));
+    assert_eq!(rt; Role::try_from(2), Ok(Role::Output));
+    assert_eq!(rt; Role::try_from(3), Ok(Role::Internal));
+    assert_eq!(rt; Role::try_from(4), Err(UnknownRole(4)));
 }

@@ -1,6 +1,9 @@
 -- What can be wrong with a bundle: each fault's number, part, place and condition.
-use Rattle.std.specs.Prelude.{ℕ, ◌+◌, ◌<◌, ◌≢◌, List, length, Result, MatchResult, slice_index}
-use Rattle.systems.specs.Faults.{Before, First, Checked}
+use Rattle.std.specs.Prelude.{ℕ, ◌+◌, ◌<◌, ◌≢◌, List, length, Result, slice_index}
+use Rattle.systems.specs.Faults.{Before, First, Checked, NoFault, Read}
+use Rattle.systems.specs.StoredTable.{Means}
+use Rattle.systems.specs.Charts.{chart_machine}
+use Rattle.systems.specs.declared.chart.Chart.{Chart}
 use Rattle.systems.specs.TableFaults.{table_number, table_place, TableFaulty}
 use Rattle.notices.specs.Bundles.{Classed, table_length, table_of}
 use Rattle.notices.specs.declared.fault.BundleFault.{BundleFault}
@@ -39,7 +42,7 @@ BundleFaulty bs (Table f) = TableFaulty (table_of bs) f
 
 -- the bundle has no fault
 abbrev pub Faultless : List ℕ → Type 0
-Faultless bs = (f : BundleFault) → BundleFaulty bs f → ⊥
+Faultless bs = NoFault (BundleFaulty bs)
 
 abbrev pub BundleBefore : BundleFault → BundleFault → Type 0
 BundleBefore = Before fault_number fault_place
@@ -51,6 +54,6 @@ FirstBundleFault bs = First (BundleFaulty bs) BundleBefore
 abbrev pub BundleChecked : List ℕ → Result (Unit {0}) BundleFault → Type 0
 BundleChecked bs = Checked (BundleFaulty bs) BundleBefore
 
--- what a stage of the checks answers: that its facts are known, or the first fault
-abbrev pub Passes : Type 0 → List ℕ → Result (Unit {0}) BundleFault → Type 0
-Passes Known bs r = MatchResult r (λ _. Known) (FirstBundleFault bs)
+-- what reading the table of a bundle gives: a chart of the machine that it means, or the bundle's first fault
+abbrev pub BundleRead : List ℕ → Result Chart BundleFault → Type 0
+BundleRead bs = Read (BundleFaulty bs) BundleBefore (λ chart. Means (table_of bs) (chart_machine chart))

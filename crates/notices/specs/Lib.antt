@@ -1,5 +1,5 @@
--- Bundles and findings, in reading order.
+-- Bundles and what is found in them, in reading order.
 pub mod Bundles
 pub mod BundleFaults
-pub mod Findings
+pub mod Inspections
 pub mod Lines

@@ -1,12 +1,21 @@
 -- The lines that tell what was found, without their line feed.
 use Rattle.std.specs.Prelude.{ℕ, List, ◌++◌, codes, decimal}
 use Rattle.notices.specs.BundleFaults.{fault_number, fault_part, fault_place}
-use Rattle.notices.specs.declared.inspection.Finding.{Finding}
-use Rattle.notices.specs.declared.inspection.Finding.TheVariants.{Sound, Refused, Duty}
+use Rattle.notices.specs.declared.fault.BundleFault.{BundleFault}
+use Rattle.notices.specs.declared.inspection.Counts.{Counts}
+use Rattle.notices.specs.declared.inspection.InspectError.{InspectError}
+use Rattle.notices.specs.declared.inspection.InspectError.TheVariants.{Fault, Duty}
 
--- the line of each finding
-abbrev pub line : Finding → List ℕ
-line (Sound states reached) = codes "states " ++ (decimal states ++ (codes " reached " ++ decimal reached))
-line (Refused f) =
+-- the line of a bundle that is counted
+abbrev pub counts_line : Counts → List ℕ
+counts_line c = codes "states " ++ (decimal c.states ++ (codes " reached " ++ decimal c.reached))
+
+-- the line of a bundle that is refused
+abbrev pub fault_line : BundleFault → List ℕ
+fault_line f =
     codes "refused " ++ (decimal (fault_number f) ++ (codes " part " ++ (decimal (fault_part f) ++ (codes " place " ++ decimal (fault_place f)))))
-line (Duty n) = codes "duty bytes are not read yet: " ++ (decimal n ++ codes " after the table")
+
+-- the line of a bundle that is not counted
+abbrev pub error_line : InspectError → List ℕ
+error_line (Fault f) = fault_line f
+error_line (Duty n) = codes "duty bytes are not read yet: " ++ (decimal n ++ codes " after the table")

@@ -4,7 +4,7 @@ ghost use Rattle.notices.specs.declared.fault.BundleFault.TheVariants.{Table};
 
 use systems::stored_table::fault::TableFault;
 
-#[derive(Clone, Copy, Debug)]
+#[derive(Clone, Copy, PartialEq, Eq, Debug)]
 pub enum BundleFault {
     // Shorter than its fixed part.
     Short,
@@ -17,6 +17,7 @@ pub enum BundleFault {
     Table(TableFault),
 }
 
+// By hand, since a derived `From` promises nothing of its result.
 impl From<TableFault> for BundleFault {
     ghost from_gives = { λ f r. r ≡ Table f };
 

@@ -1,67 +1,59 @@
 // What is found in a bundle.
-ghost use Rattle.notices.specs.BundleFaults.{Faultless};
-ghost use Rattle.std.specs.Prelude.{◌≡◌, length};
+ghost use Rattle.std.specs.Prelude.{◌≡◌};
+ghost use Rattle.notices.specs.declared.inspection.InspectError.TheVariants.{Fault};
 ghost use Rattle.systems.specs.Charts.{chart_machine};
-ghost use Rattle.systems.specs.StoredTable.{Means};
-ghost use Rattle.notices.specs.Bundles.{Whole, table_of, duty_of};
-ghost use Rattle.notices.specs.Findings.{Found};
+ghost use Rattle.notices.specs.Inspections.{CountsOf, Inspected};
 
-use crate::bundle;
+use crate::bundle::Bundle;
 use crate::fault::BundleFault;
 use systems::chart::Chart;
-use systems::stored_table;
 use systems::system::System;
 use unwinding::reach::reached_count;
 
-#[derive(Clone, Copy, Debug)]
-pub enum Finding {
-    // The number of states, and of those that are reached.
-    Sound { states: u16, reached: u16 },
-    // The first fault.
-    Refused(BundleFault),
-    // A bundle without fault so far, with this many duty bytes, which are not read yet.
+// The number of states of a bundle's system, and of those that are reached.
+#[derive(Clone, Copy, PartialEq, Eq, Debug)]
+pub struct Counts {
+    pub states: u16,
+    pub reached: u16,
+}
+
+// Why a bundle is not counted.
+#[derive(Clone, Copy, PartialEq, Eq, Debug)]
+pub enum InspectError {
+    // Its first fault.
+    Fault(BundleFault),
+    // It has no fault so far, but this many duty bytes, which are not read yet.
     Duty(usize),
 }
 
+// By hand, since a derived `From` promises nothing of its result.
+impl From<BundleFault> for InspectError {
+    ghost from_gives = { λ f r. r ≡ Fault f };
+
+    fn from(f: BundleFault) -> InspectError {
+        InspectError::Fault(f)
+    }
+}
+
 // What a bundle holds, whatever its bytes are.
-pub fn inspect(bytes: &[u8]) -> Finding
-    ensures { Found bytes.now result }
+pub fn inspect(bytes: &[u8]) -> Result<Counts, InspectError>
+    ensures { Inspected bytes.now result }
 {
-    match bundle::check(bytes) {
-        Ok(()) => inspect_faultless(bytes),
-        Err(fault) => Finding::Refused(fault),
+    let bundle = Bundle::parse(bytes)?;
+    let chart = bundle.chart()?;
+    match bundle.duty().len() {
+        0 => Ok(Counts::of(&chart)),
+        duty => Err(InspectError::Duty(duty)),
     }
 }
 
-fn inspect_faultless(bytes: &[u8]) -> Finding
-    requires whole { Whole bytes.now }
-    requires faultless { Faultless bytes.now }
-    ensures { Found bytes.now result }
-{
-    let duty = bundle::duty_length_of(bytes);
-    if duty > 0 {
-        return Finding::Duty(duty);
+impl Counts {
+    fn of(chart: &Chart) -> Counts
+        ensures { CountsOf (chart_machine chart.now) result }
+    {
+        Counts {
+            states: chart.count(),
+            reached: reached_count(chart),
+        }
     }
-    count_states(bytes)
-}
-
-fn count_states(bytes: &[u8]) -> Finding
-    requires whole { Whole bytes.now }
-    requires faultless { Faultless bytes.now }
-    requires no_duty { length (duty_of bytes.now) ≡ 0 }
-    ensures { Found bytes.now result }
-{
-    let chart = table_chart(bytes);
-    Finding::Sound {
-        states: chart.count(),
-        reached: reached_count(&chart),
-    }
-}
-
-fn table_chart(bytes: &[u8]) -> Chart
-    requires whole { Whole bytes.now }
-    requires faultless { Faultless bytes.now }
-    ensures { Means (table_of bytes.now) (chart_machine result) }
-{
-    stored_table::take_up(bundle::table_of(bytes))
 }

@@ -3,11 +3,14 @@ ghost use Rattle.std.specs.Prelude.{◌≡◌};
 ghost use Rattle.notices.specs.BundleFaults.{fault_number, fault_part, fault_place};
 
 use crate::fault::BundleFault;
+use systems::fault::Fault;
 
-impl BundleFault {
-    pub fn number(&self) -> u8
-        ensures { result ≡ fault_number self.now }
-    {
+impl Fault for BundleFault {
+    ghost number = { fault_number };
+
+    ghost place = { fault_place };
+
+    fn number(&self) -> u8 {
         match self {
             BundleFault::Short => 1,
             BundleFault::Letter(_) => 2,
@@ -17,23 +20,22 @@ impl BundleFault {
         }
     }
 
-    // Whose fault it is: 0 the bundle's own, 1 the table's.
+    fn place(&self) -> u16 {
+        match self {
+            BundleFault::Letter(e) => u16::from(*e),
+            BundleFault::Table(f) => f.place(),
+            _ => 0,
+        }
+    }
+}
+
+impl BundleFault {
+    // Whose fault it is, as it is printed: 0 the bundle's own, 1 the table's.
     pub fn part(&self) -> u8
         ensures { result ≡ fault_part self.now }
     {
         match self {
             BundleFault::Table(_) => 1,
-            _ => 0,
-        }
-    }
-
-    // The event, state or record; 0 where the fault has none.
-    pub fn place(&self) -> u16
-        ensures { result ≡ fault_place self.now }
-    {
-        match self {
-            BundleFault::Letter(e) => u16::from(*e),
-            BundleFault::Table(f) => f.place(),
             _ => 0,
         }
     }

@@ -1,13 +1,26 @@
--- Lists filled from the front.
-use Rattle.std.proofs.Common.{◌≡◌, ℕ, zero, suc, ◌+◌, ◌<◌, ◌≢◌, List, length, get_or, set, replicate, refl, arith, get_or-set_other, get_or-set_same, below_more}
+-- Arrays made by calls of one closure.
+use Rattle.std.proofs.Common.{◌≡◌, ℕ, zero, suc, ◌+◌, ◌<◌, List, get_or, sym, refl, subst, arith}
+use denote.Param.Members.{Mut, Called}
+use Rattle.std.specs.Array.{IsFromFnResult, IsFromFnResultFrom}
 
-pub replica_at : {A : Type 0} (n i : ℕ) (x : A) → get_or (replicate n x) i x ≡ x
-replica_at zero i x = refl
-replica_at (suc n) zero x = refl
-replica_at (suc n) (suc i) x = replica_at n i x
+module _ {F B : Type 0} (g : Mut F (ℕ × Unit {0}) B) (f : F) (P : ℕ → B → Type 0) where
+  -- each call leaves the closure as it was, and what it gives has P
+  abbrev pub Keeps : Type 0
+  Keeps = (i : ℕ) (y : B) (q : F) → Called g f (i, tt) y q → (q ≡ f) × P i y
 
--- what holds of each element below i, and of the one that is written there, holds below i + 1
-pub filled_more : {A : Type 0} (P : ℕ → A → Type 0) (d : A) (xs : List A) (i : ℕ) (x : A) → i < length xs
-    → ((k : ℕ) → k < i → P k (get_or xs k d)) → P i x → (k : ℕ) → k < i + 1 → P k (get_or (set xs i x) k d)
-filled_more P d xs i x h below here =
-    below_more (λ k. P k (get_or (set xs i x) k d)) i (λ k l. let ne : k ≢ i = omega arith in rw get_or-set_other (below k l)) (rw get_or-set_same here)
+  module _ (keeps : Keeps) (ys : List B) (d : B) where
+    made_from : (p : F) (i n : ℕ) → p ≡ f → IsFromFnResultFrom g p ys i n → (k : ℕ) → k < n → P (i + k) (get_or ys (i + k) d)
+    made_from p i zero e r k h = absurd (omega arith)
+    made_from p i (suc n) e (q, y, is, called, rest) zero h =
+        let (kept, good) = keeps i y q (subst (λ (x : F). Called g x (i, tt) y q) e called) in
+        let z : i ≡ i + 0 = omega arith in
+        subst (λ (j : ℕ). P j (get_or ys j d)) z (subst (P i) (sym (is.1 d)) good)
+    made_from p i (suc n) e (q, y, is, called, rest) (suc k) h =
+        let (kept, good) = keeps i y q (subst (λ (x : F). Called g x (i, tt) y q) e called) in
+        let z : (i + 1) + k ≡ i + suc k = omega arith in
+        subst (λ (j : ℕ). P j (get_or ys j d)) z (made_from q (i + 1) n kept rest k (omega arith))
+
+    pub made : (n : ℕ) → IsFromFnResult g f ys n → (k : ℕ) → k < n → P k (get_or ys k d)
+    made n r k h =
+        let z : 0 + k ≡ k = omega arith in
+        subst (λ (j : ℕ). P j (get_or ys j d)) z (made_from f 0 n refl r.each k h)

@@ -1,8 +1,8 @@
 -- Machines that answer alike are the same, and lists that have a lawful machine's answers are its chart.
-use Rattle.std.proofs.Common.{◌≡◌, ℕ, ◌+◌, ◌*◌, ◌<◌, ◌≤◌, true, cond, ltb, ◌⊎◌, List, get_or, Some, None, Option, sym, refl, ◌∙◌, inl, inr, arith}
-use Rattle.std.proofs.lemmas.Bool.{cases_lt, lt-ltb, le-ltb}
-use Rattle.systems.specs.Machine.{Machine, Lawful, bare}
-use Rattle.systems.specs.Flat.{present, step_lawful, StepsLawful, ListsRoles, ListsSteps}
+use Rattle.std.proofs.Common.{◌≡◌, ℕ, ◌<◌, ◌≤◌, true, cond, ltb, ◌⊎◌, List, get_or, Some, None, Option, sym, refl, ◌∙◌, inl, inr, arith}
+use Rattle.std.proofs.lemmas.Bool.{cases_lt, lt-ltb, cond_below, cond_above}
+use Rattle.systems.specs.Machine.{Machine, Lawful}
+use Rattle.systems.specs.Flat.{present, step_lawful, step_at, StepsLawful, ListsRoles, ListsSteps}
 use Rattle.systems.specs.declared.system.Role.{Role}
 use Rattle.systems.specs.declared.system.Role.TheVariants.{Absent, Input, Output, Internal}
 
@@ -10,33 +10,15 @@ pub same_machine : (m n : Machine) → m.count ≡ n.count → m.first ≡ n.fir
     → ((e : ℕ) → m.role e ≡ n.role e) → ((s e : ℕ) → m.step s e ≡ n.step s e) → m ≡ n
 same_machine m n p q r t = λ i. record { count = p i; first = q i; role = λ e. r e i; step = λ s e. t s e i }
 
-pub same_some : (a b : ℕ) → Some a ≡ Some b → a ≡ b
-same_some a b h = cc
-
-pub none_some : (t : ℕ) → None ≡ Some t → ⊥
-none_some t h = let z : ◌≡◌ {A = ℕ} 0 1 = cc in omega arith
-
 pub none_unless : (o : Option ℕ) → ((t : ℕ) → o ≡ Some t → ⊥) → o ≡ None
 none_unless None h = refl
 none_unless (Some t) h = absurd (h t refl)
 
-pub bare_lawful : Lawful bare
-bare_lawful =
-    record {
-      count_least = omega arith;
-      count_most = omega arith;
-      first_below = omega arith;
-      event_below = λ e h. refl;
-      next_below = λ s e t h. absurd (none_some t h);
-      state_below = λ s e t h. absurd (none_some t h);
-      takes_part = λ s e t h. absurd (none_some t h);
-    }
-
 pub role_cases : (r : Role) → (r ≡ Absent) ⊎ (r ≡ Absent → ⊥)
 role_cases Absent = inl refl
-role_cases Input = inr (λ h. (let z : ◌≡◌ {A = ℕ} 0 1 = cc in omega arith))
-role_cases Output = inr (λ h. (let z : ◌≡◌ {A = ℕ} 0 1 = cc in omega arith))
-role_cases Internal = inr (λ h. (let z : ◌≡◌ {A = ℕ} 0 1 = cc in omega arith))
+role_cases Input = inr (λ h. cc)
+role_cases Output = inr (λ h. cc)
+role_cases Internal = inr (λ h. cc)
 
 pub is_present : (r : Role) → (r ≡ Absent → ⊥) → present r ≡ true
 is_present Absent h = absurd (h refl)
@@ -48,18 +30,12 @@ is_present Internal h = refl
 abbrev pub upto : {A : Type 0} → ℕ → (ℕ → A) → A → ℕ → A
 upto n f d e = cond (ltb e n) (f e) d
 
-pub upto_below : {A : Type 0} (n : ℕ) (f : ℕ → A) (d : A) (e : ℕ) → e < n → upto n f d e ≡ f e
-upto_below n f d e h = rw (lt-ltb e n h) refl
-
-pub upto_past : {A : Type 0} (n : ℕ) (f : ℕ → A) (d : A) (e : ℕ) → n ≤ e → upto n f d e ≡ d
-upto_past n f d e h = rw (le-ltb e n h) refl
-
 pub upto_is : {A : Type 0} (n : ℕ) (f g : ℕ → A) (d : A) → ((e : ℕ) → e < n → f e ≡ g e) → ((e : ℕ) → n ≤ e → g e ≡ d)
     → (e : ℕ) → upto n f d e ≡ g e
 upto_is n f g d below past e =
     elim (cases_lt e n) [
-      | inl h ↦ upto_below n f d e h ∙ below e h
-      | inr h ↦ upto_past n f d e h ∙ sym (past e h)
+      | inl h ↦ sym (cond_below e n (f e) d h) ∙ below e h
+      | inr h ↦ sym (cond_above e n (f e) d d h refl) ∙ sym (past e h)
     ]
 
 module _ (m : Machine) (w : Lawful m) where
@@ -78,6 +54,6 @@ module _ (m : Machine) (w : Lawful m) where
         is_present r (λ a. w.takes_part s e t (sym q) (sym p ∙ a)),
       ) refl
 
-  pub lists_lawful : (roles : List Role) (steps : List (Option ℕ)) → ListsRoles m roles → ListsSteps m steps
+  pub lists_lawful : (roles : List Role) (steps : List (List (Option ℕ))) → ListsRoles m roles → ListsSteps m steps
       → StepsLawful m.count roles steps
-  lists_lawful roles steps r t s e h = lawful_at s e (get_or roles e Absent) (get_or steps (64 * s + e) None) (r e h) (t s e h)
+  lists_lawful roles steps r t s e h = lawful_at s e (get_or roles e Absent) (step_at steps s e) (r e h) (t s e h)

@@ -18,14 +18,19 @@ pub record First {F : Type 0} (There : F → Type 0) (Earlier : F → F → Type
   pub there : There f
   pub none_before : (g : F) → Earlier g f → There g → ⊥
 
--- what a check answers: that no fault is there, or the first one
-abbrev pub Checked : {F : Type 0} → (F → Type 0) → (F → F → Type 0) → Result (Unit {0}) F → Type 0
-Checked There Earlier (Ok _) = (f : _) → There f → ⊥
-Checked There Earlier (Err f) = First There Earlier f
-
 -- no fault is there
 abbrev pub NoFault : {F : Type 0} → (F → Type 0) → Type 0
 NoFault There = (f : _) → There f → ⊥
+
+-- what a check answers: that no fault is there, or the first one
+abbrev pub Checked : {F : Type 0} → (F → Type 0) → (F → F → Type 0) → Result (Unit {0}) F → Type 0
+Checked There Earlier (Ok _) = NoFault There
+Checked There Earlier (Err f) = First There Earlier f
+
+-- what reading gives: something of the meaning where no fault is there, and else the first fault
+abbrev pub Read : {F T : Type 0} → (F → Type 0) → (F → F → Type 0) → (T → Type 0) → Result T F → Type 0
+Read There Earlier Meaning (Ok x) = NoFault There × Meaning x
+Read There Earlier Meaning (Err f) = First There Earlier f
 
 -- what taking up gives: a machine of the meaning where no fault is there, and the bare machine where one is
 pub record TakenUp {F : Type 0} (There : F → Type 0) (Meaning : Machine → Type 0) (m : Machine) : Type 0 where

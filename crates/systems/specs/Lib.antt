@@ -6,4 +6,5 @@ pub mod Charts
 pub mod Faults
 pub mod StoredTable
 pub mod TableFaults
+pub mod TableReadings
 pub mod TableChecks

@@ -1,5 +1,5 @@
 -- A finite state-event system, by what it answers, and the rules that every system keeps.
-use Rattle.std.specs.Prelude.{◌≡◌, ℕ, ◌<◌, ◌≤◌, Some, None, Option, ◌≢◌}
+use Rattle.std.specs.Prelude.{◌≡◌, ℕ, ◌<◌, ◌≤◌, Some, None, Option}
 use Rattle.systems.specs.declared.system.Role.{Role}
 use Rattle.systems.specs.declared.system.Role.TheVariants.{Absent}
 
@@ -23,7 +23,7 @@ pub record Lawful (m : Machine) : Type 0 where
   pub event_below : (e : ℕ) → 64 ≤ e → m.role e ≡ Absent
   pub next_below : (s e t : ℕ) → m.step s e ≡ Some t → t < m.count
   pub state_below : (s e t : ℕ) → m.step s e ≡ Some t → s < m.count
-  pub takes_part : (s e t : ℕ) → m.step s e ≡ Some t → m.role e ≢ Absent
+  pub takes_part : (s e t : ℕ) → m.step s e ≡ Some t → EventOf m e
 
 -- one state and no event
 abbrev pub bare : Machine

@@ -1,8 +1,9 @@
 -- The layout of a stored table, and the system that its bytes mean.
-use Rattle.std.specs.Prelude.{◌≡◌, ℕ, ◌+◌, ◌-◌, ◌*◌, ◌<◌, ◌≤◌, ◌↔◌, List, Some, ◌≢◌, slice_index}
+use Rattle.std.specs.Prelude.{◌≡◌, ℕ, ◌+◌, ◌-◌, ◌*◌, ◌<◌, ◌≤◌, ◌↔◌, cond, List, Some, Result, MatchResult, ◌≢◌, nat_lt, slice_index}
 use Rattle.systems.specs.Machine.{Machine}
 use Rattle.systems.specs.declared.system.Role.{Role}
 use Rattle.systems.specs.declared.system.Role.TheVariants.{Absent, Input, Output, Internal}
+use Rattle.systems.specs.declared.system.UnknownRole.{UnknownRole}
 
 -- a two-byte field, low byte first
 abbrev pub word : List ℕ → ℕ → ℕ
@@ -24,6 +25,10 @@ role_byte bs e = slice_index bs (6 + e)
 -- the record that begins the chain of state s; zero where the chain is empty
 abbrev pub head_of : List ℕ → ℕ → ℕ
 head_of bs s = word bs (70 + 2 * s)
+
+-- the same for any number; what is no state has an empty chain
+abbrev pub chain_begin : List ℕ → ℕ → ℕ
+chain_begin bs s = cond (nat_lt s (count_of bs)) (head_of bs s) 0
 
 -- where record k begins; records are numbered from 1, so nothing asks for record 0
 unfoldable pub place_of : List ℕ → ℕ → ℕ
@@ -54,6 +59,10 @@ role_number Absent = 0
 role_number Input = 1
 role_number Output = 2
 role_number Internal = 3
+
+-- the role that a byte numbers, or that there is none
+abbrev pub RoleNumbered : ℕ → Result Role UnknownRole → Type 0
+RoleNumbered byte r = MatchResult r (λ role. role_number role ≡ byte) (λ e. (e.0 ≡ byte) × (3 < byte))
 
 -- The machine that the bytes mean: state s can do event e if and only if a record of its chain has event e, and that record's target is
 -- the next state.

@@ -1,13 +1,13 @@
 -- What each check of a table leaves known of its bytes.
-use Rattle.std.specs.Prelude.{◌≡◌, ℕ, ◌+◌, ◌*◌, ◌<◌, ◌≤◌, ◌≢◌, ◌↔◌, List, length, Some, None, Option, Result, MatchResult, slice_index_or, slice_set}
+use Rattle.std.specs.Prelude.{◌≡◌, ℕ, ◌+◌, ◌*◌, ◌<◌, ◌≤◌, ◌≢◌, ◌↔◌, List, [], length, Some, None, Option, MatchOption, Result, MatchResult, slice_index_or}
 use Rattle.systems.specs.StoredTable.{count_of, first_of, records_of, role_byte, head_of, event_of, target_of, next_of, role_number, HasRecord}
 use Rattle.systems.specs.declared.system.Role.{Role}
 use Rattle.systems.specs.declared.system.Role.TheVariants.{Absent}
-use Rattle.systems.specs.TableFaults.{RecordFaulty, FirstTableFault, record_number, record_place}
+use Rattle.systems.specs.TableFaults.{Numbers, RecordFaulty, FirstTableFault, record_number, record_place}
 use Rattle.systems.specs.declared.stored_table.fault.RecordFault.{RecordFault}
 use Rattle.systems.specs.declared.stored_table.fault.TableFault.{TableFault}
 use Rattle.systems.specs.declared.stored_table.fault.TableFault.TheVariants.{Record}
-use Rattle.systems.specs.declared.stored_table.layout.Record.{Record as Fields}
+use Rattle.systems.specs.declared.stored_table.table.Record.{Record as Fields}
 
 -- after the header: the bytes are as long as their counts say
 pub record Sized (bs : List ℕ) : Type 0 where
@@ -48,11 +48,19 @@ pub record Sound (bs : List ℕ) : Type 0 where
   pub framed : Framed bs
   pub records : RecordsSound bs (records_of bs)
 
+-- what a field with the number w names: record w, or none if w is zero
+abbrev pub Linked : ℕ → Option ℕ → Type 0
+Linked w r = MatchOption r (w ≡ 0) (λ k. (k ≡ w) × (1 ≤ w))
+
 -- the fields of record k
 pub record FieldsOf (bs : List ℕ) (k : ℕ) (r : Fields) : Type 0 where
   pub event : r.event ≡ event_of bs k
   pub target : r.target ≡ target_of bs k
-  pub next : r.next ≡ next_of bs k
+  pub next : Linked (next_of bs k) r.next
+
+-- what is found under number k: its record, or that there is none
+abbrev pub RecordFound : List ℕ → ℕ → Option Fields → Type 0
+RecordFound bs k r = MatchOption r (Numbers bs k → ⊥) (λ f. Numbers bs k × FieldsOf bs k f)
 
 -- f is a fault of record k, which has no fault of a lower number
 pub record FirstOfRecord (bs : List ℕ) (k : ℕ) (f : RecordFault) : Type 0 where
@@ -76,19 +84,10 @@ RecordsPass bs r = MatchResult r (λ _. RecordsSound bs (records_of bs)) (λ f. 
 abbrev pub RolesRead : List ℕ → List Role → Type 0
 RolesRead bs roles = (e : ℕ) → e < 64 → role_number (slice_index_or roles e Absent) ≡ role_byte bs e
 
--- no step of state s stands in the list
-abbrev pub RowEmpty : ℕ → List (Option ℕ) → Type 0
-RowEmpty s steps = (e : ℕ) → e < 64 → slice_index_or steps (64 * s + e) None ≡ None
+-- the row has the steps of state s as its chain has them, and none if there is no state s
+abbrev pub RowRead : List ℕ → ℕ → List (Option ℕ) → Type 0
+RowRead bs s row = (e : ℕ) → e < 64 → (t : ℕ) → (slice_index_or row e None ≡ Some t) ↔ ((s < count_of bs) × HasRecord bs s e t)
 
--- the list with the step of record k written down for state s
-abbrev pub with_step : List ℕ → ℕ → ℕ → List (Option ℕ) → List (Option ℕ)
-with_step bs s k steps = slice_set steps (64 * s + event_of bs k) (Some (target_of bs k))
-
--- the steps of state s stand in the list as its chain has them
-abbrev pub ChainRead : List ℕ → ℕ → List (Option ℕ) → Type 0
-ChainRead bs s steps = (e : ℕ) → e < 64 → (t : ℕ) → (slice_index_or steps (64 * s + e) None ≡ Some t) ↔ HasRecord bs s e t
-
--- the list has the steps of every chain, and no other
-pub record ChainsRead (bs : List ℕ) (steps : List (Option ℕ)) : Type 0 where
-  pub chains : (s : ℕ) → s < count_of bs → ChainRead bs s steps
-  pub rest : (i : ℕ) → 64 * count_of bs ≤ i → slice_index_or steps i None ≡ None
+-- the rows have the steps of every state
+abbrev pub RowsRead : List ℕ → List (List (Option ℕ)) → Type 0
+RowsRead bs steps = (s : ℕ) → RowRead bs s (slice_index_or steps s [])

@@ -1,7 +1,7 @@
 -- What can be wrong with a table's bytes: each fault's number, place and condition.
 use Rattle.std.specs.Prelude.{◌≡◌, ℕ, ◌+◌, ◌*◌, ◌<◌, ◌≤◌, ◌≢◌, ◌⊎◌, List, length, Result}
-use Rattle.systems.specs.Faults.{Before, First, Checked}
-use Rattle.systems.specs.Machine.{Machine, bare}
+use Rattle.systems.specs.Faults.{Before, First, Checked, TakenUp}
+use Rattle.systems.specs.Machine.{Machine}
 use Rattle.systems.specs.StoredTable.{count_of, first_of, records_of, role_byte, head_of, event_of, target_of, next_of, Means}
 use Rattle.systems.specs.declared.stored_table.fault.RecordFault.{RecordFault}
 use Rattle.systems.specs.declared.stored_table.fault.RecordFault.TheVariants.{Event, Target, Next}
@@ -73,6 +73,5 @@ abbrev pub TableChecked : List ℕ → Result (Unit {0}) TableFault → Type 0
 TableChecked bs = Checked (TableFaulty bs) TableBefore
 
 -- what taking up a table gives: the machine that its bytes mean, or the bare one where they have a fault
-pub record TakenUp (bs : List ℕ) (m : Machine) : Type 0 where
-  pub sound : ((f : TableFault) → TableFaulty bs f → ⊥) → Means bs m
-  pub faulty : (f : TableFault) → TableFaulty bs f → m ≡ bare
+abbrev pub TableTakenUp : List ℕ → Machine → Type 0
+TableTakenUp bs = TakenUp (TableFaulty bs) (Means bs)

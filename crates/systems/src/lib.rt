@@ -3,5 +3,6 @@
 
 pub mod bare;
 pub mod chart;
+pub mod fault;
 pub mod stored_table;
 pub mod system;

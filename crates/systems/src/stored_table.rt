@@ -1,9 +1,9 @@
 // The stored table: a system as bytes, with each state's steps in a chain of records.
 mod checks;
 pub mod fault;
-mod layout;
 mod report;
+mod table;
 mod taking_up;
 
 pub use checks::check;
-pub use taking_up::take_up;
+pub use taking_up::{read, take_up};

@@ -1,6 +1,7 @@
 // What every system answers.
 ghost use Rattle.std.specs.Prelude.{◌≡◌};
 ghost use Rattle.systems.specs.Machine.{Machine, Lawful};
+ghost use Rattle.systems.specs.StoredTable.{RoleNumbered};
 
 // What an event is to a system.
 #[derive(Clone, Copy, PartialEq, Eq, Debug)]
@@ -10,6 +11,26 @@ pub enum Role {
     Input,
     Output,
     Internal,
+}
+
+// A byte that numbers no role.
+#[derive(Clone, Copy, PartialEq, Eq, Debug)]
+pub struct UnknownRole(pub u8);
+
+impl TryFrom<u8> for Role {
+    type Error = UnknownRole;
+
+    ghost try_from_gives = { RoleNumbered };
+
+    fn try_from(byte: u8) -> Result<Role, UnknownRole> {
+        match byte {
+            0 => Ok(Role::Absent),
+            1 => Ok(Role::Input),
+            2 => Ok(Role::Output),
+            3 => Ok(Role::Internal),
+            _ => Err(UnknownRole(byte)),
+        }
+    }
 }
 
 // A finite state-event system. Each question has one answer for every state and event asked, is

@@ -1,12 +1,6 @@
-pub mod Computed
-pub mod BitLaws
-pub mod LowestBits
 pub mod Members
 pub mod Outside
 pub mod Counted
-pub mod BitCounts
-pub mod Events
 pub mod Falling
-pub mod Kept
 pub mod Closing
 pub mod Starting

@@ -1,16 +1,12 @@
 -- Which events a set allows.
-use Rattle.std.specs.Prelude.{◌≡◌, ℕ, Bool, false, cond, ◌&&◌, ◌||◌, ◌==◌, nat_lt}
-use Rattle.unwinding.specs.Bits.{bit}
-use Rattle.unwinding.specs.declared.event_set.EventSet.{EventSet}
+use Rattle.std.specs.Prelude.{ℕ, Bool}
+use Rattle.unwinding.specs.BitSets.{member}
+use Rattle.unwinding.specs.declared.bit_set.BitSet.{BitSet}
 
--- event e is the bit of value 2^e
-unfoldable pub holds : EventSet → ℕ → Bool
-holds events e = bit events.bits e
+-- a set of events, whose numbers are below 64
+abbrev pub EventSet : Type 0
+EventSet = BitSet 1
 
--- event e is one of the 64, and in the set
+-- event e is in the set; none above 63 is
 abbrev pub allows : EventSet → ℕ → Bool
-allows events e = cond (nat_lt e 64) (holds events e) false
-
--- after is before with event e, if that is one of the 64
-abbrev pub Added : EventSet → ℕ → EventSet → Type 0
-Added before e after = (d : ℕ) → allows after d ≡ ((nat_lt e 64 && d == e) || allows before d)
+allows events e = member events e

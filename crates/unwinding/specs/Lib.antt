@@ -1,7 +1,6 @@
 -- Sets, closures and classes, in reading order.
-pub mod Bits
 pub mod Tallies
-pub mod StateSets
+pub mod BitSets
 pub mod EventSets
 pub mod Classes
 pub mod Closed

@@ -8,16 +8,22 @@ pub enum Class {
     Confidential,
 }
 
-impl Class {
-    // The class that a letter stands for.
-    pub fn from_letter(letter: u8) -> Option<Class>
-        ensures { Lettered letter result }
-    {
+// A letter that stands for no class.
+#[derive(Clone, Copy, PartialEq, Eq, Debug)]
+pub struct UnknownLetter(pub u8);
+
+// The class that a letter stands for.
+impl TryFrom<u8> for Class {
+    type Error = UnknownLetter;
+
+    ghost try_from_gives = { Lettered };
+
+    fn try_from(letter: u8) -> Result<Class, UnknownLetter> {
         match char::from(letter) {
-            'V' => Some(Class::Visible),
-            'N' => Some(Class::Neutral),
-            'C' => Some(Class::Confidential),
-            _ => None,
+            'V' => Ok(Class::Visible),
+            'N' => Ok(Class::Neutral),
+            'C' => Ok(Class::Confidential),
+            _ => Err(UnknownLetter(letter)),
         }
     }
 }

@@ -1,6 +1,6 @@
 // What can be wrong with duty bytes.
 
-#[derive(Clone, Copy, Debug)]
+#[derive(Clone, Copy, PartialEq, Eq, Debug)]
 pub enum DutyFault {
     // Not exactly 65 bytes.
     Length,

@@ -1,13 +1,16 @@
 // What a duty monitor holds.
-ghost use Rattle.std.specs.Prelude.{◌≤◌};
-ghost use Rattle.components.specs.Entries.{EntriesKnown};
+ghost use Rattle.std.specs.Prelude.{◌≤◌, length};
+ghost use Rattle.components.specs.Acts.{ActsKnown};
+
+use crate::duty::act::Act;
 
 // A state keeps for each user, as a base-3 digit, whether and how the user has acted.
 #[derive(Clone, Copy)]
 pub struct DutyMonitor {
     pub(crate) users: u8,
-    // The entry of each event: 0 for none, else 1 + 2u + x for user u in activity x.
-    pub(crate) entries: [u8; 64],
+    // What each event is; `None` where it is no event of the monitor.
+    pub(crate) acts: [Option<Act>; 64],
     ghost few: { users ≤ 5 },
-    ghost known: { EntriesKnown users entries },
+    ghost long: { length acts ≤ 64 },
+    ghost known: { ActsKnown users acts },
 }

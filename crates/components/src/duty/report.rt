@@ -1,13 +1,15 @@
 // The number and the place by which a fault is told.
-ghost use Rattle.std.specs.Prelude.{◌≡◌};
 ghost use Rattle.components.specs.DutyFaults.{duty_number, duty_place};
 
 use crate::duty::fault::DutyFault;
+use systems::fault::Fault;
 
-impl DutyFault {
-    pub fn number(&self) -> u8
-        ensures { result ≡ duty_number self.now }
-    {
+impl Fault for DutyFault {
+    ghost number = { duty_number };
+
+    ghost place = { duty_place };
+
+    fn number(&self) -> u8 {
         match self {
             DutyFault::Length => 15,
             DutyFault::Users => 16,
@@ -16,9 +18,7 @@ impl DutyFault {
     }
 
     // The event; 0 where the fault has none.
-    pub fn place(&self) -> u16
-        ensures { result ≡ duty_place self.now }
-    {
+    fn place(&self) -> u16 {
         match self {
             DutyFault::Entry(e) => u16::from(*e),
             _ => 0,

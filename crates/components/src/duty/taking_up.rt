@@ -1,49 +1,28 @@
-// Duty bytes taken up as a monitor.
-ghost use Rattle.std.specs.Prelude.{◌≡◌};
-ghost use Rattle.systems.specs.Machine.{bare};
-ghost use Rattle.components.specs.Duties.{Monitors, RunsSeparated};
-ghost use Rattle.components.specs.DutyFaults.{DutyTakenUp, DutyRuns, Sound};
-ghost use Rattle.components.specs.Monitors.{EntriesRead, monitor_machine};
+// Duty bytes checked, and taken up as a monitor: as for a stored table, but the promises differ (what
+// the bytes mean, and which runs there are), so that one trait for both would be longer than the two.
+ghost use Rattle.std.specs.Prelude.{OnOk};
+ghost use Rattle.components.specs.DutyFaults.{DutyChecked, DutyTakenUp, DutyRuns, Sound};
+ghost use Rattle.components.specs.Monitors.{monitor_machine};
 
-use crate::duty::checks::check;
+use crate::duty::fault::DutyFault;
 use crate::duty::monitor::DutyMonitor;
+
+// The first fault of duty bytes, if they have any.
+pub fn check(bytes: &[u8]) -> Result<(), DutyFault>
+    ensures value { DutyChecked bytes.now result }
+    ensures sound { OnOk result (Sound bytes.now) }
+{
+    DutyMonitor::read(bytes)?;
+    Ok(())
+}
 
 // The monitor of the bytes; the bare system where `check` refuses them.
 pub fn take_up(bytes: &[u8]) -> DutyMonitor
     ensures taken_up { DutyTakenUp bytes.now (monitor_machine result) }
     ensures runs { DutyRuns bytes.now (monitor_machine result) }
 {
-    match check(bytes) {
-        Ok(()) => read_monitor(bytes),
-        Err(_) => bare_monitor(),
-    }
-}
-
-fn read_monitor(bytes: &[u8]) -> DutyMonitor
-    requires { Sound bytes.now }
-    ensures taken_up { Monitors bytes.now (monitor_machine result) }
-    ensures runs { RunsSeparated bytes.now (monitor_machine result) }
-{
-    let users = bytes[0];
-    let entries = read_entries(bytes);
-    DutyMonitor { users, entries }
-}
-
-fn read_entries(bytes: &[u8]) -> [u8; 64]
-    requires { Sound bytes.now }
-    ensures { EntriesRead bytes.now result }
-{
-    let mut entries = [0; 64];
-    entries.copy_from_slice(&bytes[1..65]);
-    entries
-}
-
-// A monitor without users is the bare system.
-fn bare_monitor() -> DutyMonitor
-    ensures { monitor_machine result ≡ bare }
-{
-    DutyMonitor {
-        users: 0,
-        entries: [0; 64],
+    match DutyMonitor::read(bytes) {
+        Ok(monitor) => monitor,
+        Err(_) => DutyMonitor::bare(),
     }
 }

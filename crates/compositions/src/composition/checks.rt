@@ -1,42 +1,40 @@
 // The checks of two systems that are to be composed, in their order.
-ghost use Rattle.std.specs.Prelude.{◌*◌, ◌≤◌, Decides};
-ghost use Rattle.compositions.specs.CompositionFaults.{Clash, CompositionChecked, CountPasses};
+ghost use Rattle.std.specs.Prelude.{Decides};
+ghost use Rattle.compositions.specs.CompositionFaults.{Clash, CompositionChecked};
+ghost use Rattle.compositions.specs.Arranging.{Arranged, FirstClash};
 
 use crate::composition::fault::CompositionFault;
+use crate::composition::grid::Grid;
+use std::ops::Range;
 use systems::system::{Role, System};
-
-const MOST_STATES: u32 = 256;
 
 // The first fault of the two, if they have any.
 pub fn check<L: System, R: System>(left: &L, right: &R) -> Result<(), CompositionFault>
     ensures { CompositionChecked (L.System.machine left.now)
         (R.System.machine right.now) result }
 {
-    check_count(left, right)?;
-    check_shared(left, right)
-}
-
-fn check_count<L: System, R: System>(left: &L, right: &R) -> Result<(), CompositionFault>
-    ensures { CountPasses (L.System.machine left.now)
-        (R.System.machine right.now) result }
-{
-    if u32::from(left.count()) * u32::from(right.count()) > MOST_STATES {
-        return Err(CompositionFault::States);
-    }
+    arrange(left, right)?;
     Ok(())
 }
 
-fn check_shared<L: System, R: System>(left: &L, right: &R) -> Result<(), CompositionFault>
-    requires { (L.System.machine left.now).count * (R.System.machine right.now).count ≤ 256 }
-    ensures { CompositionChecked (L.System.machine left.now)
-        (R.System.machine right.now) result }
+// The states of the two, or their first fault.
+pub(crate) fn arrange<L: System, R: System>(left: &L, right: &R) -> Result<Grid, CompositionFault>
+    ensures { Arranged (L.System.machine left.now) (R.System.machine right.now) result }
 {
-    'events: for e in 0..64u8 {
-        if clash(left.role(e), right.role(e)) {
-            return Err(CompositionFault::Shared(e));
-        }
+    let grid = Grid::of(left, right)?;
+    match first_clash(left, right, 0..64) {
+        Some(e) => Err(CompositionFault::Shared(e)),
+        None => Ok(grid),
     }
-    Ok(())
+}
+
+// The lowest of the events whose roles clash. Two references go from one function to the next here;
+// a struct of them would be made in `arrange` and taken apart in each.
+fn first_clash<L: System, R: System>(left: &L, right: &R, mut events: Range<u8>) -> Option<u8>
+    ensures { FirstClash (L.System.machine left.now) (R.System.machine right.now)
+        events.start events.end result }
+{
+    events.find(|&e| clash(left.role(e), right.role(e)))
 }
 
 // Whether an event may not have these roles in two parts.

@@ -1,6 +1,6 @@
 // What can keep two systems from being composed.
 
-#[derive(Clone, Copy, Debug)]
+#[derive(Clone, Copy, PartialEq, Eq, Debug)]
 pub enum CompositionFault {
     // More than 256 states.
     States,

@@ -1,15 +1,15 @@
 // A restriction as a system.
-ghost use Rattle.compositions.specs.RestrictionMachines.{restriction_machine};
+ghost use Rattle.compositions.specs.Restrictions.{restricted};
 ghost use Rattle.unwinding.specs.EventSets.{allows};
-ghost use Rattle.compositions.specs.Unshut.{restricted_lawful};
+ghost use Rattle.std.proofs.Common.{rules};
 
 use crate::restriction::parts::Restriction;
 use systems::system::{Role, System};
 
 impl<S: System> System for Restriction<S> {
-    ghost machine = { restriction_machine S.System.machine };
+    ghost machine = { λ s. restricted (allows s.shut) (S.System.machine s.below) };
 
-    ghost lawful = { λ s. restricted_lawful (allows s.shut) (S.System.machine s.below) (S.System.lawful s.below) };
+    ghost lawful = { Prim.search rules };
 
     fn count(&self) -> u16 {
         self.below.count()

@@ -19,18 +19,13 @@ impl System for Chart {
     }
 
     fn role(&self, event: u8) -> Role {
-        if event < 64 {
-            self.roles[event as usize]
-        } else {
-            Role::Absent
+        match self.roles.get(usize::from(event)) {
+            Some(role) => *role,
+            None => Role::Absent,
         }
     }
 
     fn step(&self, state: u8, event: u8) -> Option<u8> {
-        if event < 64 {
-            self.steps[64 * state as usize + event as usize]
-        } else {
-            None
-        }
+        *self.steps[usize::from(state)].get(usize::from(event))?
     }
 }

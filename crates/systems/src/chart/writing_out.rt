@@ -1,12 +1,13 @@
 // Systems written out as charts.
-ghost use Rattle.std.specs.Prelude.{◌≡◌};
+ghost use Rattle.std.specs.Prelude.{◌≡◌, ◌<◌};
 ghost use Rattle.systems.specs.Machine.{bare};
-ghost use Rattle.systems.specs.Flat.{ListsRoles, ListsSteps, ListsStepsOf, KeepsOtherRows};
+ghost use Rattle.systems.specs.Flat.{ListsRoles, ListsSteps, ListsStepsOf};
 ghost use Rattle.systems.specs.Charts.{chart_machine};
 
 use crate::bare::Bare;
-use crate::chart::Chart;
+use crate::chart::{Chart, Row};
 use crate::system::{Role, System};
+use std::array;
 
 impl Chart {
     // The bare system: one state and no event.
@@ -20,15 +21,11 @@ impl Chart {
     pub fn of<S: System>(system: &S) -> Chart
         ensures { chart_machine result ≡ S.System.machine system.now }
     {
-        let count = system.count();
-        let first = system.first();
-        let roles = ask_roles(system);
-        let steps = ask_steps(system);
         Chart {
-            count,
-            first,
-            roles,
-            steps,
+            count: system.count(),
+            first: system.first(),
+            roles: ask_roles(system),
+            steps: ask_steps(system),
         }
     }
 }
@@ -36,29 +33,37 @@ impl Chart {
 fn ask_roles<S: System>(system: &S) -> [Role; 64]
     ensures { ListsRoles (S.System.machine system.now) result }
 {
-    let mut roles = [Role::Absent; 64];
-    'events: for e in 0..64u8 {
-        roles[e as usize] = system.role(e);
-    }
-    roles
+    array::from_fn(
+        |event| -> Role
+            requires { event < 64 }
+            ensures { result ≡ (S.System.machine system.entry.now).role event }
+        { system.role(event as u8) },
+    )
 }
 
-fn ask_steps<S: System>(system: &S) -> [Option<u8>; 16384]
+fn ask_steps<S: System>(system: &S) -> [Row; 256]
     ensures { ListsSteps (S.System.machine system.now) result }
 {
-    let mut steps = [None; 16384];
-    'states: for n in 0..system.count() {
-        ask_steps_of(system, n as u8, &mut steps);
-    }
-    steps
+    array::from_fn(
+        |state| -> Row
+            requires { state < 256 }
+            ensures { ListsStepsOf (S.System.machine system.entry.now) state result }
+        { ask_steps_of(system, state as u8) },
+    )
 }
 
-// Writes the steps of one state into their places; the other places stay.
-fn ask_steps_of<S: System>(system: &S, state: u8, steps: &mut [Option<u8>; 16384])
-    ensures row { ListsStepsOf (S.System.machine system.now) state steps.new }
-    ensures others { KeepsOtherRows state steps.old steps.new }
+// The steps of one state; where there is no such state, nothing is asked.
+fn ask_steps_of<S: System>(system: &S, state: u8) -> Row
+    ensures { ListsStepsOf (S.System.machine system.now) state result }
 {
-    'events: for event in 0..64u8 {
-        steps[64 * state as usize + event as usize] = system.step(state, event);
+    if u16::from(state) < system.count() {
+        array::from_fn(
+            |event| -> Option<u8>
+                requires { event < 64 }
+                ensures { result ≡ (S.System.machine system.entry.now).step state event }
+            { system.step(state, event as u8) },
+        )
+    } else {
+        [None; 64]
     }
 }

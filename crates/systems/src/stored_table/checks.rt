@@ -1,109 +1,98 @@
-// The checks of a table, in their order.
-ghost use Rattle.std.specs.Prelude.{OnOk};
-ghost use Rattle.systems.specs.TableFaults.{Numbers, TableChecked};
-ghost use Rattle.systems.specs.TableChecks.{Sized, RolesKnown, HeadsKnown, Framed, Sound, Passes, RecordPasses, RecordsPass};
+// The checks of a table after its counts, in their order.
+ghost use Rattle.std.specs.Prelude.{◌≡◌, ◌≢◌, MatchResult, OnOk};
+ghost use Rattle.systems.specs.TableFaults.{Numbers, TableChecked, FirstTableFault};
+ghost use Rattle.systems.specs.TableChecks.{RolesKnown, HeadsKnown, Framed, Sound, Passes, RecordPasses, RecordsPass};
 
 use crate::stored_table::fault::{RecordFault, TableFault};
-use crate::stored_table::layout::{
-    FIXED_PART, ROLES, count_of, first_of, head_of, record_at, records_of,
-};
+use crate::stored_table::table::Table;
+use crate::system::Role;
 
-const MOST_STATES: u16 = 256;
+// A table without fault.
+#[derive(Clone, Copy)]
+pub(crate) struct SoundTable<'a> {
+    pub(crate) table: Table<'a>,
+    ghost sound: { Sound table.bytes.now },
+}
 
-const MOST_RECORDS: u16 = 8192;
-
-const HIGHEST_ROLE: u8 = 3;
-
-const HIGHEST_EVENT: u16 = 63;
+impl<'a> SoundTable<'a> {
+    // The table of the bytes, or their first fault.
+    pub(crate) fn parse(bytes: &'a [u8]) -> Result<SoundTable<'a>, TableFault>
+        ensures { MatchResult result (λ sound. sound.table.bytes.now ≡ bytes.now) (FirstTableFault bytes.now) }
+    {
+        let table = Table::parse(bytes)?;
+        table.check_roles()?;
+        table.check_heads()?;
+        table.check_records()?;
+        Ok(SoundTable { table })
+    }
+}
 
 // The first fault of a table's bytes, if they have any.
 pub fn check(bytes: &[u8]) -> Result<(), TableFault>
     ensures value { TableChecked bytes.now result }
     ensures sound { OnOk result (Sound bytes.now) }
 {
-    check_header(bytes)?;
-    check_roles(bytes)?;
-    check_heads(bytes)?;
-    check_records(bytes)?;
+    SoundTable::parse(bytes)?;
     Ok(())
 }
 
-fn check_header(bytes: &[u8]) -> Result<(), TableFault>
-    ensures { Passes Sized bytes.now result }
-{
-    if bytes.len() < FIXED_PART {
-        return Err(TableFault::Short);
-    }
-    let count = count_of(bytes);
-    if count == 0 || count > MOST_STATES {
-        return Err(TableFault::Count);
-    }
-    if first_of(bytes) >= count {
-        return Err(TableFault::First);
-    }
-    let records = records_of(bytes);
-    if records > MOST_RECORDS {
-        return Err(TableFault::Records);
-    }
-    if bytes.len() != FIXED_PART + 2 * usize::from(count) + 6 * usize::from(records) {
-        return Err(TableFault::Length);
-    }
-    Ok(())
-}
-
-fn check_roles(bytes: &[u8]) -> Result<(), TableFault>
-    requires { Sized bytes.now }
-    ensures { Passes RolesKnown bytes.now result }
-{
-    'events: for e in 0..64u8 {
-        if bytes[ROLES + usize::from(e)] > HIGHEST_ROLE {
-            return Err(TableFault::Role(e));
+impl<'a> Table<'a> {
+    fn check_roles(&self) -> Result<(), TableFault>
+        ensures { Passes RolesKnown self.now.bytes.now result }
+    {
+        match self
+            .role_bytes()
+            .iter()
+            .position(|&byte| Role::try_from(byte).is_err())
+        {
+            Some(e) => Err(TableFault::Role(e as u8)),
+            None => Ok(()),
         }
     }
-    Ok(())
-}
 
-fn check_heads(bytes: &[u8]) -> Result<(), TableFault>
-    requires sized { Sized bytes.now }
-    requires roles { RolesKnown bytes.now }
-    ensures { Passes HeadsKnown bytes.now result }
-{
-    let records = records_of(bytes);
-    'states: for s in 0..count_of(bytes) {
-        if head_of(bytes, usize::from(s)) > records {
-            return Err(TableFault::Head(s as u8));
+    fn check_heads(&self) -> Result<(), TableFault>
+        requires { RolesKnown self.now.bytes.now }
+        ensures { Passes HeadsKnown self.now.bytes.now result }
+    {
+        // A `for`: as `find` it has the same test in a closure, and a longer proof.
+        'states: for s in 0..self.count() {
+            match self.head(s) {
+                Some(head) if head > self.record_count() => return Err(TableFault::Head(s as u8)),
+                _ => {}
+            }
+        }
+        Ok(())
+    }
+
+    fn check_records(&self) -> Result<(), RecordFault>
+        requires { Framed self.now.bytes.now }
+        ensures { RecordsPass self.now.bytes.now result }
+    {
+        // A `for`: its body passes on an error by `?`.
+        'records: for number in 1..=self.record_count() {
+            self.check_record(number)?;
+        }
+        Ok(())
+    }
+
+    fn check_record(&self, number: u16) -> Result<(), RecordFault>
+        requires { Numbers self.now.bytes.now number }
+        ensures { RecordPasses self.now.bytes.now number result }
+    {
+        let record = self.record_at(number);
+        let role = self.role_bytes().get(usize::from(record.event));
+        if !role.is_some_and(|&byte| Role::try_from(byte) != Ok(Role::Absent)) {
+            return Err(RecordFault::Event(number));
+        }
+        if record.target >= self.count() {
+            return Err(RecordFault::Target(number));
+        }
+        let Some(next) = record.next else {
+            return Ok(());
+        };
+        match self.record(next) {
+            Some(next) if next.event > record.event => Ok(()),
+            _ => Err(RecordFault::Next(number)),
         }
     }
-    Ok(())
-}
-
-fn check_records(bytes: &[u8]) -> Result<(), RecordFault>
-    requires { Framed bytes.now }
-    ensures { RecordsPass bytes.now result }
-{
-    'records: for i in 0..records_of(bytes) {
-        check_record(bytes, i + 1)?;
-    }
-    Ok(())
-}
-
-fn check_record(bytes: &[u8], number: u16) -> Result<(), RecordFault>
-    requires sized { Sized bytes.now }
-    requires numbers { Numbers bytes.now number }
-    ensures { RecordPasses bytes.now number result }
-{
-    let record = record_at(bytes, number);
-    if record.event > HIGHEST_EVENT || bytes[ROLES + usize::from(record.event)] == 0 {
-        return Err(RecordFault::Event(number));
-    }
-    if record.target >= count_of(bytes) {
-        return Err(RecordFault::Target(number));
-    }
-    if record.next > records_of(bytes) {
-        return Err(RecordFault::Next(number));
-    }
-    if record.next != 0 && record_at(bytes, record.next).event <= record.event {
-        return Err(RecordFault::Next(number));
-    }
-    Ok(())
 }

@@ -3,7 +3,7 @@ ghost use Rattle.std.specs.Prelude.{◌≡◌};
 ghost use Rattle.systems.specs.declared.stored_table.fault.TableFault.TheVariants.{Record};
 
 // What is wrong with a record, with the record's number.
-#[derive(Clone, Copy, Debug)]
+#[derive(Clone, Copy, PartialEq, Eq, Debug)]
 pub enum RecordFault {
     // Its event is above 63 or no event of the system.
     Event(u16),
@@ -13,7 +13,7 @@ pub enum RecordFault {
     Next(u16),
 }
 
-#[derive(Clone, Copy, Debug)]
+#[derive(Clone, Copy, PartialEq, Eq, Debug)]
 pub enum TableFault {
     // Shorter than its fixed part.
     Short,
@@ -32,6 +32,7 @@ pub enum TableFault {
     Record(RecordFault),
 }
 
+// By hand, since a derived `From` promises nothing of its result.
 impl From<RecordFault> for TableFault {
     ghost from_gives = { λ f r. r ≡ Record f };
 

@@ -1,13 +1,15 @@
 // The number and the place by which a fault is told.
-ghost use Rattle.std.specs.Prelude.{◌≡◌};
 ghost use Rattle.systems.specs.TableFaults.{record_number, record_place, table_number, table_place};
 
+use crate::fault::Fault;
 use crate::stored_table::fault::{RecordFault, TableFault};
 
-impl RecordFault {
-    pub fn number(&self) -> u8
-        ensures { result ≡ record_number self.now }
-    {
+impl Fault for RecordFault {
+    ghost number = { record_number };
+
+    ghost place = { record_place };
+
+    fn number(&self) -> u8 {
         match self {
             RecordFault::Event(_) => 12,
             RecordFault::Target(_) => 13,
@@ -15,20 +17,19 @@ impl RecordFault {
         }
     }
 
-    // The record's number.
-    pub fn place(&self) -> u16
-        ensures { result ≡ record_place self.now }
-    {
+    fn place(&self) -> u16 {
         match self {
             RecordFault::Event(k) | RecordFault::Target(k) | RecordFault::Next(k) => *k,
         }
     }
 }
 
-impl TableFault {
-    pub fn number(&self) -> u8
-        ensures { result ≡ table_number self.now }
-    {
+impl Fault for TableFault {
+    ghost number = { table_number };
+
+    ghost place = { table_place };
+
+    fn number(&self) -> u8 {
         match self {
             TableFault::Short => 5,
             TableFault::Count => 6,
@@ -41,10 +42,7 @@ impl TableFault {
         }
     }
 
-    // The event, state or record; 0 where the fault has none.
-    pub fn place(&self) -> u16
-        ensures { result ≡ table_place self.now }
-    {
+    fn place(&self) -> u16 {
         match self {
             TableFault::Role(e) => u16::from(*e),
             TableFault::Head(s) => u16::from(*s),

@@ -1,99 +1,82 @@
 // A table's bytes taken up as a chart.
-ghost use Rattle.std.specs.Prelude.{◌≡◌, ◌<◌, ◌≤◌};
-ghost use Rattle.systems.specs.Flat.{KeepsOtherRows};
+ghost use Rattle.std.specs.Prelude.{◌≡◌, ◌<◌};
 ghost use Rattle.systems.specs.Charts.{chart_machine};
-ghost use Rattle.systems.specs.StoredTable.{count_of, next_of, role_number, Means};
-ghost use Rattle.systems.specs.TableFaults.{Numbers, TakenUp};
-ghost use Rattle.systems.specs.TableChecks.{Sound, RolesRead, ChainRead, ChainsRead, RowEmpty, with_step};
+ghost use Rattle.systems.specs.StoredTable.{role_number, role_byte, Means};
+ghost use Rattle.systems.specs.TableFaults.{TableTakenUp};
+ghost use Rattle.systems.specs.TableReadings.{TableRead};
+ghost use Rattle.systems.specs.TableChecks.{RolesRead, RowRead, RowsRead};
 
-use crate::chart::Chart;
-use crate::stored_table::checks::check;
-use crate::stored_table::layout::{ROLES, count_of, first_of, head_of, record_at};
+use crate::chart::{Chart, Row};
+use crate::stored_table::checks::SoundTable;
+use crate::stored_table::fault::TableFault;
 use crate::system::Role;
+use std::array;
 
 // The system that the bytes mean; the bare one where `check` refuses them.
 pub fn take_up(bytes: &[u8]) -> Chart
-    ensures { TakenUp bytes.now (chart_machine result) }
+    ensures { TableTakenUp bytes.now (chart_machine result) }
 {
-    match check(bytes) {
-        Ok(()) => read_chart(bytes),
+    match read(bytes) {
+        Ok(chart) => chart,
         Err(_) => Chart::bare(),
     }
 }
 
-fn read_chart(bytes: &[u8]) -> Chart
-    requires { Sound bytes.now }
-    ensures { Means bytes.now (chart_machine result) }
+// The system that the bytes mean, or their first fault: `check` and `take_up` in one.
+pub fn read(bytes: &[u8]) -> Result<Chart, TableFault>
+    ensures { TableRead bytes.now result }
 {
-    let count = count_of(bytes);
-    let first = first_of(bytes) as u8;
-    let roles = read_roles(bytes);
-    let steps = read_chains(bytes);
-    Chart {
-        count,
-        first,
-        roles,
-        steps,
-    }
+    let sound = SoundTable::parse(bytes)?;
+    Ok(sound.chart())
 }
 
-fn role_of(byte: u8) -> Role
-    requires { byte ≤ 3 }
-    ensures { role_number result ≡ byte }
-{
-    match byte {
-        0 => Role::Absent,
-        1 => Role::Input,
-        2 => Role::Output,
-        _ => Role::Internal,
+impl<'a> SoundTable<'a> {
+    fn chart(&self) -> Chart
+        ensures { Means self.now.table.bytes.now (chart_machine result) }
+    {
+        Chart {
+            count: self.table.count(),
+            first: self.table.first() as u8,
+            roles: self.roles(),
+            steps: self.rows(),
+        }
     }
-}
 
-fn read_roles(bytes: &[u8]) -> [Role; 64]
-    requires { Sound bytes.now }
-    ensures { RolesRead bytes.now result }
-{
-    let mut roles = [Role::Absent; 64];
-    'events: for e in 0..64usize {
-        roles[e] = role_of(bytes[ROLES + e]);
+    fn roles(&self) -> [Role; 64]
+        ensures { RolesRead self.now.table.bytes.now result }
+    {
+        array::from_fn(|event| self.role(event))
     }
-    roles
-}
 
-fn read_chains(bytes: &[u8]) -> [Option<u8>; 16384]
-    requires { Sound bytes.now }
-    ensures { ChainsRead bytes.now result }
-{
-    let mut steps = [None; 16384];
-    'states: for s in 0..count_of(bytes) {
-        read_chain(bytes, s as usize, &mut steps);
+    fn role(&self, event: usize) -> Role
+        requires { event < 64 }
+        ensures { role_number result ≡ role_byte self.now.table.bytes.now event }
+    {
+        Role::try_from(self.table.role_bytes()[event]).unwrap()
     }
-    steps
-}
 
-// Writes the steps of one state's chain into their places; the other places stay.
-fn read_chain(bytes: &[u8], state: usize, steps: &mut [Option<u8>; 16384])
-    requires sound { Sound bytes.now }
-    requires below { state < count_of bytes.now }
-    requires empty { RowEmpty state steps.old }
-    ensures row { ChainRead bytes.now state steps.new }
-    ensures others { KeepsOtherRows state steps.old steps.new }
-{
-    let mut at = head_of(bytes, state);
-    'chain: while at != 0 {
-        at = write_step(bytes, at, state, steps);
+    fn rows(&self) -> [Row; 256]
+        ensures { RowsRead self.now.table.bytes.now result }
+    {
+        array::from_fn(
+            |state| -> Row
+                requires { state < 256 }
+                ensures { RowRead self.entry.now.table.bytes.now state result }
+            { self.row(state as u16) },
+        )
     }
-}
 
-// Writes the step of one record of the state's chain, and answers which record is next.
-fn write_step(bytes: &[u8], number: u16, state: usize, steps: &mut [Option<u8>; 16384]) -> u16
-    requires sound { Sound bytes.now }
-    requires numbers { Numbers bytes.now number }
-    requires below { state < count_of bytes.now }
-    ensures value { result ≡ next_of bytes.now number }
-    ensures after { steps.new ≡ with_step bytes.now state number steps.old }
-{
-    let record = record_at(bytes, number);
-    steps[64 * state + record.event as usize] = Some(record.target as u8);
-    record.next
+    // The steps of one state. Its chain goes by record numbers, since so the format has it.
+    fn row(&self, state: u16) -> Row
+        ensures { RowRead self.now.table.bytes.now state result }
+    {
+        let mut row = [None; 64];
+        let mut at = self.table.head(state);
+        'chain: while let Some(number) = at {
+            let record = self.table.record_at(number);
+            row[usize::from(record.event)] = Some(record.target as u8);
+            at = record.next;
+        }
+        row
+    }
 }

@@ -1,15 +1,15 @@
-use Rattle.std.proofs.Common.{◌+◌, ◌*◌, ◌<◌, ◌≢◌, length, arith, get_or-set_other, get_or-set_same, below_more}
-use Rattle.std.proofs.lemmas.List.{length-set}
-use Rattle.systems.proofs.Rows.{keeps_write}
+use Rattle.std.proofs.Common.{◌≡◌, ◌≤◌, None, sym, ◌∙◌, rules, arith}
+use Rattle.std.proofs.lemmas.List.{get_or-replicate}
+use Rattle.systems.proofs.Filling.{made}
+use Rattle.systems.proofs.Machines.{no_state}
 use Rattle.systems.proofs.chart.writing_out.ask_steps_of.Goals as goal
 
-pub events-preserved : goal.events-preserved
-events-preserved g c =
-    let s = c.args.state in
-    let e = c.events.event in (
-      simp length-set c.events.invariant.0,
-      below_more _ _
-          (λ k h. let ne : 64 * s + k ≢ 64 * s + e = omega arith in rw get_or-set_other (c.events.invariant.1 k h))
-          (let lt : 64 * s + e < length c.events.steps = omega arith in rw get_or-set_same c.step.ensures),
-      keeps_write s e _ _ c.step.result (omega arith) c.events.invariant.2,
-    )
+pub returns-then-from-count : goal.returns-then-from-count
+returns-then-from-count g c =
+    made _ _ (λ e r. r ≡ (g.S.System.machine c.args.system.now).step c.args.state e) (λ i y q h. search rules) _ None 64 c.from_fn.ensures.items
+
+pub returns-else-from-count : goal.returns-else-from-count
+returns-else-from-count g c e h =
+    let m = g.S.System.machine c.args.system.now in
+    let past : m.count ≤ c.args.state = omega arith in
+    get_or-replicate 64 e None None h ∙ sym (no_state m (g.met.S.System.lawful c.args.system.now) c.args.state e past)

@@ -1,6 +1,0 @@
-use Rattle.std.proofs.Common.{ℕ, ◌<◌, ◌≤◌}
-use Rattle.systems.specs.StoredTable.{head_of, records_of}
-use Rattle.systems.proofs.stored_table.checks.check_heads.Given as goal
-
-abbrev pub invariant-states : goal.invariant-states
-invariant-states l = (k : ℕ) → k < l.s → head_of l.bytes k ≤ records_of l.bytes
