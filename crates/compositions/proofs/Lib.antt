@@ -1,3 +1,3 @@
-pub mod Composites
 pub mod CompositeRuns
 pub mod RestrictedRuns
+pub mod TakenUpCompositions

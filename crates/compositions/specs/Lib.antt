@@ -5,3 +5,4 @@ pub mod Grids
 pub mod Arranging
 pub mod CompositionMachines
 pub mod Restrictions
+pub mod CompositeLaws

@@ -22,8 +22,8 @@ struct Head<'a> {
     ghost long: { 67 ≤ length bytes.now },
 }
 
-// The bytes of a bundle with room for its table. (That the letters name classes is no ghost field:
-// the prover does not see that there is but one proof of it.)
+// The bytes of a bundle with room for its table. (That the letters name classes is no ghost field: the
+// fact of one may have one proof only, and the prover does not see that of this one.)
 #[derive(Clone, Copy)]
 pub(crate) struct Bundle<'a> {
     head: Head<'a>,

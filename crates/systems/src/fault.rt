@@ -10,7 +10,7 @@ pub trait Fault {
     fn number(&self) -> u8
         ensures { result ≡ number self.now };
 
-    // The event, state or record; 0 where the fault has none, since so it is printed.
+    // The event, state or record; 0 where the fault has none, as it is printed.
     fn place(&self) -> u16
         ensures { result ≡ place self.now };
 }

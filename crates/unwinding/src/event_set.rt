@@ -7,7 +7,8 @@ use crate::bit_set::BitSet;
 // Any of the 64 events, each by its number; an event above 63 is in no set.
 pub type EventSet = BitSet<1>;
 
-// Not for any number of words: that would have to ask of its caller that they are few.
+// Not generic in the number of words: these functions would have to ask of their caller that the
+// words are few.
 impl EventSet {
     pub fn none() -> EventSet
         ensures { (e : ℕ) → allows result e ≡ false }

@@ -17,7 +17,6 @@ impl Fault for DutyFault {
         }
     }
 
-    // The event; 0 where the fault has none.
     fn place(&self) -> u16 {
         match self {
             DutyFault::Entry(e) => u16::from(*e),

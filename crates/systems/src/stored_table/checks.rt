@@ -1,5 +1,5 @@
 // The checks of a table after its counts, in their order.
-ghost use Rattle.std.specs.Prelude.{◌≡◌, ◌≢◌, MatchResult, OnOk};
+ghost use Rattle.std.specs.Prelude.{◌≡◌, MatchResult, OnOk};
 ghost use Rattle.systems.specs.TableFaults.{Numbers, TableChecked, FirstTableFault};
 ghost use Rattle.systems.specs.TableChecks.{RolesKnown, HeadsKnown, Framed, Sound, Passes, RecordPasses, RecordsPass};
 

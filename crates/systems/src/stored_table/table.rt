@@ -1,5 +1,5 @@
 // The fields of a table's bytes.
-ghost use Rattle.std.specs.Prelude.{◌≡◌, ℕ, ◌+◌, ◌<◌, ◌≤◌, length, MatchResult, slice_index};
+ghost use Rattle.std.specs.Prelude.{◌≡◌, ℕ, ◌+◌, ◌<◌, length, MatchResult, slice_index};
 ghost use Rattle.systems.specs.StoredTable.{word, count_of, first_of, records_of, role_byte, chain_begin};
 ghost use Rattle.systems.specs.TableFaults.{Numbers, FirstTableFault};
 ghost use Rattle.systems.specs.TableChecks.{Sized, Linked, RecordFound, FieldsOf};

@@ -66,7 +66,7 @@ impl<'a> SoundTable<'a> {
         )
     }
 
-    // The steps of one state. Its chain goes by record numbers, since so the format has it.
+    // The steps of one state. Its chain goes by record numbers, as the format has it.
     fn row(&self, state: u16) -> Row
         ensures { RowRead self.now.table.bytes.now state result }
     {

@@ -1,4 +1,4 @@
-use Rattle.std.proofs.Common.{ℕ, ◌≤◌, length-set, refl, sym, subst, arith, rules}
+use Rattle.std.proofs.Common.{ℕ, length-set, refl, sym, subst, arith, rules}
 use Rattle.systems.specs.StoredTable.{chain_begin, next_of}
 use Rattle.systems.proofs.Chains.{Walked, walk_none, walk_more, begin_most, row_read}
 use Rattle.systems.proofs.stored_table.checks.SoundTable.row.Goals as goal
