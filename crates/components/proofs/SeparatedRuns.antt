@@ -1,13 +1,15 @@
 -- The runs of a duty monitor: those in which nobody acts in both activities.
-use Rattle.std.proofs.Common.{◌≡◌, ℕ, ◌+◌, ◌-◌, ◌/◌, ◌%◌, ◌^◌, ◌<◌, ◌≤◌, ◌⊎◌, ◌↔◌, List, [], ◌∷◌, Some, sym, refl, subst, inl, inr, arith}
+use Rattle.std.proofs.Common.{◌≡◌, ℕ, ◌+◌, ◌-◌, ◌*◌, ◌/◌, ◌%◌, ◌^◌, ◌<◌, ◌≤◌, ◌⊎◌, ◌↔◌, List, [], ◌∷◌, Some, sym, refl, subst, inl, inr, arith}
 use native.Mathlib.Nat.{zero-div}
-use Rattle.std.proofs.lemmas.Bool.{cases_eq}
+use Rattle.std.proofs.lemmas.Bool.{cases_eq, cases_lt}
+use Rattle.std.proofs.lemmas.List.{get_or_past}
 use Rattle.std.specs.List.{AllByRecursion}
 use Rattle.systems.specs.Machine.{Machine, Lawful}
 use Rattle.systems.specs.Runs.{Leads}
 use Rattle.components.specs.Duties.{users_of, entry_of, ActOf, ActsIn, Separated, digit, Acted, Monitors, RunsSeparated}
-use Rattle.components.specs.DutyMachines.{some_states}
-use Rattle.components.proofs.Digits.{possible}
+use Rattle.components.specs.DutyFaults.{Sound}
+use Rattle.components.specs.DutyMachines.{some_states, few_states, marked_below}
+use Rattle.components.proofs.Digits.{possible, acted_marked}
 
 -- user u has acted in activity x before state s, or does so in es
 abbrev Acts : List ℕ → ℕ → List ℕ → ℕ → ℕ → Type 0
@@ -75,3 +77,42 @@ module _ (bs : List ℕ) (m : Machine) (law : Lawful m) (mon : Monitors bs m) wh
         λ (t, r). let (events, apart) = leads_separated es 0 t (some_states (users_of bs)) r in (events, (from_first es).0 apart),
         λ (events, apart). separated_leads es 0 (some_states (users_of bs)) events ((from_first es).1 apart),
       )
+
+-- a machine that sound bytes mean is a lawful system, so that its runs are known without more
+module _ (bs : List ℕ) (sound : Sound bs) (m : Machine) (mon : Monitors bs m) where
+  entry_known : (e : ℕ) → entry_of bs e ≤ 2 * users_of bs
+  entry_known e = elim (cases_lt e 64) [ inl h ↦ sound.entries e h | inr h ↦ omega (arith, get_or_past bs (1 + e) 0 (omega (arith, sound.long))) ]
+
+  event_is : (s e t : ℕ) → m.step s e ≡ Some t → (s < 3 ^ users_of bs) × (1 ≤ entry_of bs e) × (t < 3 ^ users_of bs)
+  event_is s e t p =
+      elim (cases_lt s (3 ^ users_of bs)) [
+        | inr h ↦ absurd (mon.no_state s e t h p)
+        | inl l ↦
+            elim (cases_eq (entry_of bs e) 0) [
+              | inl z ↦ absurd (mon.no_act s e t z p)
+              | inr some ↦
+                  let u = (entry_of bs e - 1) / 2 in
+                  let x = (entry_of bs e - 1) % 2 in
+                  let is : ActOf bs e u x = (omega arith, omega arith) in
+                  let a = (mon.step s e u x t l is).0 p in
+                  let below = marked_below s u x (users_of bs) t is.0 (omega (arith, entry_known e, is.0, is.1)) l (acted_marked s u x is.0 t a) in
+                  (l, omega arith, below)
+            ]
+      ]
+
+  pub monitors_lawful : Lawful m
+  monitors_lawful =
+      let few = few_states (users_of bs) sound.most in
+      let one = some_states (users_of bs) in
+      record {
+        count_least = omega (arith, mon.count);
+        count_most = omega (arith, mon.count);
+        first_below = omega (arith, mon.count, mon.first);
+        event_below = λ e h. mon.absent e (get_or_past bs (1 + e) 0 (omega (arith, sound.long)));
+        next_below = λ s e t p. omega (arith, mon.count, (event_is s e t p).2);
+        state_below = λ s e t p. omega (arith, mon.count, (event_is s e t p).0);
+        takes_part = λ s e t p a. (let i = mon.input e (event_is s e t p).1 in cc);
+      }
+
+  pub sound_separated : RunsSeparated bs m
+  sound_separated = runs_separated bs m monitors_lawful mon

@@ -27,7 +27,7 @@ pub place : (k u : ℕ) → u < k → 3 ^ k ≡ 3 ^ (k - suc u) * 3 * 3 ^ u
 place k u h = grind (arith, pow-add 3 (k - suc u + 1) u, pow-add 3 (k - suc u) 1)
 
 -- a number keeps below a power of 3 where its digit of a lower weight is 0 and becomes c
-added_below : (c k u s : ℕ) → c < 3 → u < k → digit s u ≡ 0 → s < 3 ^ k → s + c * 3 ^ u < 3 ^ k
+pub added_below : (c k u s : ℕ) → c < 3 → u < k → digit s u ≡ 0 → s < 3 ^ k → s + c * 3 ^ u < 3 ^ k
 added_below c k u s small h z l =
     let e = place k u h in
     let q : s / 3 ^ u < 3 ^ (k - suc u) * 3 = (div-lt_iff_lt-mul (some_states u)).1 (omega arith) in
@@ -44,7 +44,7 @@ pub two : (x : Activity) → activity_number x < 2
 two First = omega arith
 two Second = omega arith
 
-marked_below : (s u x k t : ℕ) → x < 2 → u < k → s < 3 ^ k → marked s u x ≡ Some t → t < 3 ^ k
+pub marked_below : (s u x k t : ℕ) → x < 2 → u < k → s < 3 ^ k → marked s u x ≡ Some t → t < 3 ^ k
 marked_below s u x k t small h l p =
     let b : digit s u ≡ 0 → s + (1 + x) * 3 ^ u < 3 ^ k = λ z. added_below (1 + x) k u s (omega arith) h z l in
     grind (arith, nat_tests)

@@ -2,7 +2,7 @@
 use crate::samples::{STEADY, refusal};
 use systems::chart::Chart;
 use systems::stored_table::fault::TableFault;
-use systems::stored_table::{check as check_table, read, take_up};
+use systems::stored_table::{SoundTable, check as check_table, read, take_up};
 use systems::system::{Role, System, UnknownRole};
 
 // Where the fields of STEADY lie.
@@ -197,6 +197,14 @@ fn reading_gives_the_chart_or_the_first_fault(rt: HostRuntime) {
     table[ROLES + 9] = 4;
     let counts = read(&table).map(|chart| (chart.count(), chart.first()));
     assert_eq!(rt; counts, Err(TableFault::Role(9)));
+}
+
+#[test]
+fn sound_tables_give_their_chart(rt: HostRuntime) {
+    let count = SoundTable::parse(&STEADY).map(|table| table.chart().count());
+    assert_eq!(rt; count, Ok(3));
+    let count = SoundTable::parse(&STEADY[0..99]).map(|table| table.chart().count());
+    assert_eq!(rt; count, Err(TableFault::Length));
 }
 
 #[test]

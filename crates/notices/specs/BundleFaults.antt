@@ -1,9 +1,6 @@
 -- What can be wrong with a bundle: each fault's number, part, place and condition.
 use Rattle.std.specs.Prelude.{ℕ, ◌+◌, ◌<◌, ◌≢◌, List, length, Result, slice_index}
-use Rattle.systems.specs.Faults.{Before, First, Checked, NoFault, Read}
-use Rattle.systems.specs.StoredTable.{Means}
-use Rattle.systems.specs.Charts.{chart_machine}
-use Rattle.systems.specs.declared.chart.Chart.{Chart}
+use Rattle.systems.specs.Faults.{Before, First, Checked, NoFault}
 use Rattle.systems.specs.TableFaults.{table_number, table_place, TableFaulty}
 use Rattle.notices.specs.Bundles.{Classed, table_length, table_of}
 use Rattle.notices.specs.declared.fault.BundleFault.{BundleFault}
@@ -53,7 +50,3 @@ FirstBundleFault bs = First (BundleFaulty bs) BundleBefore
 -- what the check of a bundle answers
 abbrev pub BundleChecked : List ℕ → Result (Unit {0}) BundleFault → Type 0
 BundleChecked bs = Checked (BundleFaulty bs) BundleBefore
-
--- what reading the table of a bundle gives: a chart of the machine that it means, or the bundle's first fault
-abbrev pub BundleRead : List ℕ → Result Chart BundleFault → Type 0
-BundleRead bs = Read (BundleFaulty bs) BundleBefore (λ chart. Means (table_of bs) (chart_machine chart))

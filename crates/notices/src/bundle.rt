@@ -1,11 +1,11 @@
 // A bundle: class letters, a line feed, the table's length, the table, then nothing or duty bytes.
 ghost use Rattle.std.specs.Prelude.{◌≡◌, ℕ, ◌+◌, ◌<◌, ◌≤◌, length, MatchResult, OnOk, slice_index};
 ghost use Rattle.notices.specs.Bundles.{table_length, table_of, duty_of, Whole, LettersKnown};
-ghost use Rattle.notices.specs.BundleFaults.{BundleChecked, BundleRead, FirstBundleFault};
+ghost use Rattle.notices.specs.BundleFaults.{BundleChecked, FirstBundleFault};
+ghost use Rattle.notices.specs.BundleTables.{BundleTable};
 
 use crate::fault::BundleFault;
-use systems::chart::Chart;
-use systems::stored_table;
+use systems::stored_table::{self, SoundTable};
 use unwinding::class::Class;
 
 // Where the parts of a bundle begin, after the 64 letters.
@@ -95,13 +95,13 @@ impl<'a> Bundle<'a> {
         &self.head.bytes[TABLE..TABLE + self.head.table_length()]
     }
 
-    // The system of the table, or the first fault of a bundle whose other parts are sound.
-    pub(crate) fn chart(&self) -> Result<Chart, BundleFault>
+    // The table, or the first fault of a bundle whose other parts are sound.
+    pub(crate) fn sound_table(&self) -> Result<SoundTable<'a>, BundleFault>
         requires { Whole self.now.head.bytes.now }
-        ensures { BundleRead self.now.head.bytes.now result }
+        ensures { BundleTable self.now.head.bytes.now result }
     {
-        let chart = stored_table::read(self.table())?;
-        Ok(chart)
+        let table = SoundTable::parse(self.table())?;
+        Ok(table)
     }
 
     // What follows the table.

@@ -40,9 +40,9 @@ pub fn inspect(bytes: &[u8]) -> Result<Counts, InspectError>
     ensures { Inspected bytes.now result }
 {
     let bundle = Bundle::parse(bytes)?;
-    let chart = bundle.chart()?;
+    let table = bundle.sound_table()?;
     match bundle.duty().len() {
-        0 => Ok(Counts::of(&chart)),
+        0 => Ok(Counts::of(&table.chart())),
         duty => Err(InspectError::Duty(duty)),
     }
 }

@@ -1,4 +1,5 @@
 pub mod Filling
+pub mod Rows
 pub mod Machines
 pub mod Chains
 pub mod TakenUps

@@ -1,7 +1,7 @@
 -- Machines that answer alike are the same, and lists that have a lawful machine's answers are its chart.
-use Rattle.std.proofs.Common.{◌≡◌, ℕ, ◌<◌, ◌≤◌, true, cond, ltb, ◌⊎◌, List, get_or, Some, None, Option, sym, refl, ◌∙◌, inl, inr, arith}
+use Rattle.std.proofs.Common.{◌≡◌, ℕ, ◌<◌, ◌≤◌, true, cond, ltb, ◌⊎◌, List, get_or, Some, None, Option, sym, refl, ◌∙◌, inl, inr, rules, arith}
 use Rattle.std.proofs.lemmas.Bool.{cases_lt, lt-ltb, cond_below, cond_above}
-use Rattle.systems.specs.Machine.{Machine, Lawful}
+use Rattle.systems.specs.Machine.{Machine, Lawful, bare}
 use Rattle.systems.specs.Flat.{present, step_lawful, step_at, StepsLawful, ListsRoles, ListsSteps}
 use Rattle.systems.specs.declared.system.Role.{Role}
 use Rattle.systems.specs.declared.system.Role.TheVariants.{Absent, Input, Output, Internal}
@@ -10,9 +10,18 @@ pub same_machine : (m n : Machine) → m.count ≡ n.count → m.first ≡ n.fir
     → ((e : ℕ) → m.role e ≡ n.role e) → ((s e : ℕ) → m.step s e ≡ n.step s e) → m ≡ n
 same_machine m n p q r t = λ i. record { count = p i; first = q i; role = λ e. r e i; step = λ s e. t s e i }
 
+pub same_some : (a b : ℕ) → Some a ≡ Some b → a ≡ b
+same_some a b h = cc
+
+pub none_some : (t : ℕ) → None ≡ Some t → ⊥
+none_some t h = cc
+
 pub none_unless : (o : Option ℕ) → ((t : ℕ) → o ≡ Some t → ⊥) → o ≡ None
 none_unless None h = refl
 none_unless (Some t) h = absurd (h t refl)
+
+pub bare_lawful : Lawful bare
+bare_lawful = search rules
 
 pub role_cases : (r : Role) → (r ≡ Absent) ⊎ (r ≡ Absent → ⊥)
 role_cases Absent = inl refl

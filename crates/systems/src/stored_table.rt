@@ -5,5 +5,5 @@ mod report;
 mod table;
 mod taking_up;
 
-pub use checks::check;
+pub use checks::{SoundTable, check};
 pub use taking_up::{read, take_up};

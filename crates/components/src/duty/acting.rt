@@ -9,14 +9,21 @@ use crate::duty::act::{Act, Activity};
 const HIGHEST_ENTRY: u8 = 10;
 
 // The number of states of so many users, and the weight of the digit of the user of that number.
-#[tactic(auto, using(crate::specs::DutyMachines::some_states, crate::specs::DutyMachines::few_states))]
 pub(crate) fn power_of_3(exponent: u8) -> u8
     requires { exponent ≤ 5 }
     ensures value { result ≡ 3 ^ exponent }
     ensures least { 1 ≤ result }
     ensures most { result ≤ 243 }
 {
-    3u8.pow(u32::from(exponent))
+    // Not `pow`, whose loop would run again for each question that a monitor is asked.
+    match exponent {
+        0 => 1,
+        1 => 3,
+        2 => 9,
+        3 => 27,
+        4 => 81,
+        _ => 243,
+    }
 }
 
 impl Activity {

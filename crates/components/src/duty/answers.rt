@@ -23,9 +23,10 @@ impl System for DutyMonitor {
     }
 
     fn role(&self, event: u8) -> Role {
-        match self.act_of(event) {
-            Some(_) => Role::Input,
-            None => Role::Absent,
+        // Looked at where it stands: a composition asks both its parts for roles at each step.
+        match self.acts.get(usize::from(event)) {
+            Some(Some(_)) => Role::Input,
+            _ => Role::Absent,
         }
     }
 

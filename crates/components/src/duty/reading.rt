@@ -1,5 +1,5 @@
 // Duty bytes read as a monitor.
-ghost use Rattle.std.specs.Prelude.{◌≡◌, ◌≢◌, length, IfOk, MatchOption, MatchResult};
+ghost use Rattle.std.specs.Prelude.{◌≡◌, ◌≢◌, length, IfOk, MatchOption, MatchResult, OnOk};
 ghost use Rattle.systems.specs.Machine.{bare};
 ghost use Rattle.components.specs.Duties.{Monitors, RunsSeparated};
 ghost use Rattle.components.specs.Reading.{FirstAbove, Parts, Split};
@@ -29,8 +29,9 @@ fn split(bytes: &[u8]) -> Option<(u8, &[u8; 64])>
 }
 
 // The parts of the bytes, or the bytes' first fault.
-fn parts(bytes: &[u8]) -> Result<(u8, &[u8; 64]), DutyFault>
-    ensures { MatchResult result (λ p. Parts bytes.now p.0 p.1.now) (FirstDutyFault bytes.now) }
+pub(crate) fn parts(bytes: &[u8]) -> Result<(u8, &[u8; 64]), DutyFault>
+    ensures value { MatchResult result (λ p. Parts bytes.now p.0 p.1.now) (FirstDutyFault bytes.now) }
+    ensures sound { OnOk result (Sound bytes.now) }
 {
     let (users, entries) = split(bytes).ok_or(DutyFault::Length)?;
     if users == 0 || users > MOST_USERS {

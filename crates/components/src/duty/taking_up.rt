@@ -6,13 +6,14 @@ ghost use Rattle.components.specs.Monitors.{monitor_machine};
 
 use crate::duty::fault::DutyFault;
 use crate::duty::monitor::DutyMonitor;
+use crate::duty::reading::parts;
 
 // The first fault of duty bytes, if they have any.
 pub fn check(bytes: &[u8]) -> Result<(), DutyFault>
     ensures value { DutyChecked bytes.now result }
     ensures sound { OnOk result (Sound bytes.now) }
 {
-    DutyMonitor::read(bytes)?;
+    parts(bytes)?;
     Ok(())
 }
 

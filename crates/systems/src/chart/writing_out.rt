@@ -44,26 +44,22 @@ fn ask_roles<S: System>(system: &S) -> [Role; 64]
 fn ask_steps<S: System>(system: &S) -> [Row; 256]
     ensures { ListsSteps (S.System.machine system.now) result }
 {
-    array::from_fn(
-        |state| -> Row
-            requires { state < 256 }
-            ensures { ListsStepsOf (S.System.machine system.entry.now) state result }
-        { ask_steps_of(system, state as u8) },
-    )
+    // A `for`: an array made by `from_fn` would be made for all 256 states, and copied whole.
+    let mut steps = [[None; 64]; 256];
+    'states: for state in 0..system.count() {
+        steps[usize::from(state)] = ask_steps_of(system, state as u8);
+    }
+    steps
 }
 
-// The steps of one state; where there is no such state, nothing is asked.
+// The steps of one state.
 fn ask_steps_of<S: System>(system: &S, state: u8) -> Row
     ensures { ListsStepsOf (S.System.machine system.now) state result }
 {
-    if u16::from(state) < system.count() {
-        array::from_fn(
-            |event| -> Option<u8>
-                requires { event < 64 }
-                ensures { result ≡ (S.System.machine system.entry.now).step state event }
-            { system.step(state, event as u8) },
-        )
-    } else {
-        [None; 64]
-    }
+    array::from_fn(
+        |event| -> Option<u8>
+            requires { event < 64 }
+            ensures { result ≡ (S.System.machine system.entry.now).step state event }
+        { system.step(state, event as u8) },
+    )
 }

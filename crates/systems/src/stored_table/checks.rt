@@ -7,16 +7,16 @@ use crate::stored_table::fault::{RecordFault, TableFault};
 use crate::stored_table::table::Table;
 use crate::system::Role;
 
-// A table without fault.
+// A table without fault, which `chart` takes up.
 #[derive(Clone, Copy)]
-pub(crate) struct SoundTable<'a> {
+pub struct SoundTable<'a> {
     pub(crate) table: Table<'a>,
     ghost sound: { Sound table.bytes.now },
 }
 
 impl<'a> SoundTable<'a> {
     // The table of the bytes, or their first fault.
-    pub(crate) fn parse(bytes: &'a [u8]) -> Result<SoundTable<'a>, TableFault>
+    pub fn parse(bytes: &'a [u8]) -> Result<SoundTable<'a>, TableFault>
         ensures { MatchResult result (λ sound. sound.table.bytes.now ≡ bytes.now) (FirstTableFault bytes.now) }
     {
         let table = Table::parse(bytes)?;

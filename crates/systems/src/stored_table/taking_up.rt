@@ -16,8 +16,8 @@ use std::array;
 pub fn take_up(bytes: &[u8]) -> Chart
     ensures { TableTakenUp bytes.now (chart_machine result) }
 {
-    match read(bytes) {
-        Ok(chart) => chart,
+    match SoundTable::parse(bytes) {
+        Ok(table) => table.chart(),
         Err(_) => Chart::bare(),
     }
 }
@@ -31,7 +31,8 @@ pub fn read(bytes: &[u8]) -> Result<Chart, TableFault>
 }
 
 impl<'a> SoundTable<'a> {
-    fn chart(&self) -> Chart
+    // The system that the table means.
+    pub fn chart(&self) -> Chart
         ensures { Means self.now.table.bytes.now (chart_machine result) }
     {
         Chart {
@@ -58,12 +59,12 @@ impl<'a> SoundTable<'a> {
     fn rows(&self) -> [Row; 256]
         ensures { RowsRead self.now.table.bytes.now result }
     {
-        array::from_fn(
-            |state| -> Row
-                requires { state < 256 }
-                ensures { RowRead self.entry.now.table.bytes.now state result }
-            { self.row(state as u16) },
-        )
+        // A `for`: an array made by `from_fn` would be made for all 256 states, and copied whole.
+        let mut rows = [[None; 64]; 256];
+        'states: for state in 0..self.table.count() {
+            rows[usize::from(state)] = self.row(state);
+        }
+        rows
     }
 
     // The steps of one state. Its chain goes by record numbers, as the format has it.

@@ -1,17 +1,21 @@
-use Rattle.std.proofs.Common.{[], inl, inr, rules, arith}
-use Rattle.std.proofs.lemmas.List.{get_or_past}
+use Rattle.std.proofs.Common.{sym, ◌∙◌, inl, inr, arith}
 use Rattle.std.proofs.lemmas.Bool.{cases_lt}
-use Rattle.systems.specs.TableChecks.{RowRead}
-use Rattle.systems.proofs.Filling.{made}
 use Rattle.std.proofs.lemmas.Option.{none-some}
+use Rattle.systems.proofs.Rows.{rows_none, rows_more}
 use Rattle.systems.proofs.stored_table.checks.SoundTable.rows.Goals as goal
+
+pub states-init : goal.states-init
+states-init c = rows_none _
+
+pub states-preserved : goal.states-preserved
+states-preserved c = rows_more _ _ _ _ _ c.from.ensures (omega (arith, c.args.self.now.table.sized.most)) c.states.invariant c.row.ensures
 
 pub returns : goal.returns
 returns c s =
-    let t = c.args.self.now in
-    elim (cases_lt s 256) [
-      | inl l ↦ made _ _ (RowRead t.table.bytes.now) (λ i y q k. search rules) _ [] 256 c.from_fn.ensures.items s l
-      | inr k ↦
-          rw (get_or_past c.from_fn.result s [] (omega (arith, c.from_fn.ensures.items.long)))
-          (λ e h u. (λ p. absurd (none-some u p), λ p. absurd (omega (arith, p.0, t.table.sized.most))))
+    elim (cases_lt s c.states.state) [
+      | inl l ↦ c.states.invariant.done s l
+      | inr k ↦ λ e h t. (
+        λ p. absurd (none-some t (sym (c.states.invariant.rest s e k) ∙ p)),
+        λ p. absurd (omega (arith, p.0)),
+      )
     ]
