@@ -1,11 +1,10 @@
 -- Walking a chain, and writing its steps down.
-use Rattle.std.proofs.Common.{◌≡◌, ℕ, ◌-◌, ◌<◌, ◌≤◌, ◌≢◌, ◌⊎◌, ◌↔◌, List, length, get_or, set, Some, None, Option, sym, refl, ap, ◌∙◌, subst, inl, inr, arith, get_or-set_other, get_or-set_same, replicate}
-use Rattle.std.proofs.lemmas.List.{get_or-replicate}
+use Rattle.std.proofs.Common.{◌≡◌, ℕ, ◌-◌, ◌<◌, ◌≤◌, ◌≢◌, ◌⊎◌, ◌↔◌, List, length, get_or, set, Some, None, Option, sym, refl, ap, ◌∙◌, subst, inl, inr, arith, get_or-set_other, get_or-set_same}
 use Rattle.std.proofs.lemmas.Bool.{cases_eq, cases_lt, lt-ltb, le-ltb}
 use Rattle.std.proofs.lemmas.Bool.Decides.{nat_tests}
 use Rattle.systems.specs.StoredTable.{count_of, records_of, chain_begin, head_of, event_of, target_of, next_of, OnChain, here, further, HasRecord}
 use Rattle.systems.specs.TableFaults.{Numbers}
-use Rattle.systems.specs.TableChecks.{Sound, RecordSound, RowRead}
+use Rattle.systems.specs.TableChecks.{Sound, RecordSound, RowEmpty, RowRead}
 use Rattle.std.proofs.lemmas.Option.{same_Some, none-some}
 
 chain_more : (bs : List ℕ) (k j : ℕ) → OnChain bs k j → 1 ≤ next_of bs j → OnChain bs k (next_of bs j)
@@ -42,12 +41,12 @@ pub record Walked (bs : List ℕ) (b at : ℕ) (row : List (Option ℕ)) : Type 
   pub found : (e t : ℕ) → e < 64 → get_or row e None ≡ Some t → Has bs b e t
   pub all : (j : ℕ) → OnChain bs b j → OnChain bs at j ⊎ Written bs at row j
 
-pub walk_none : (bs : List ℕ) (b : ℕ) → b ≤ records_of bs → Walked bs b b (replicate 64 None)
-walk_none bs b h =
+pub walk_none : (bs : List ℕ) (b : ℕ) (row : List (Option ℕ)) → b ≤ records_of bs → RowEmpty row → Walked bs b b row
+walk_none bs b row h empty =
     record {
       most = h;
       on = here b;
-      found = λ e t l p. absurd (none-some t (sym (get_or-replicate 64 e None None l) ∙ p));
+      found = λ e t l p. absurd (none-some t (sym (empty e) ∙ p));
       all = λ j c. inl c;
     }
 

@@ -84,6 +84,10 @@ RecordsPass bs r = MatchResult r (λ _. RecordsSound bs (records_of bs)) (λ f. 
 abbrev pub RolesRead : List ℕ → List Role → Type 0
 RolesRead bs roles = (e : ℕ) → e < 64 → role_number (slice_index_or roles e Absent) ≡ role_byte bs e
 
+-- no step stands in the row
+abbrev pub RowEmpty : List (Option ℕ) → Type 0
+RowEmpty row = (e : ℕ) → slice_index_or row e None ≡ None
+
 -- the row has the steps of state s as its chain has them, and none if there is no state s
 abbrev pub RowRead : List ℕ → ℕ → List (Option ℕ) → Type 0
 RowRead bs s row = (e : ℕ) → e < 64 → (t : ℕ) → (slice_index_or row e None ≡ Some t) ↔ ((s < count_of bs) × HasRecord bs s e t)

@@ -4,7 +4,7 @@ ghost use Rattle.systems.specs.Charts.{chart_machine};
 ghost use Rattle.systems.specs.StoredTable.{role_number, role_byte, Means};
 ghost use Rattle.systems.specs.TableFaults.{TableTakenUp};
 ghost use Rattle.systems.specs.TableReadings.{TableRead};
-ghost use Rattle.systems.specs.TableChecks.{RolesRead, RowRead, RowsRead};
+ghost use Rattle.systems.specs.TableChecks.{RolesRead, RowEmpty, RowRead, RowsRead};
 
 use crate::chart::{Chart, Row};
 use crate::stored_table::checks::SoundTable;
@@ -62,22 +62,22 @@ impl<'a> SoundTable<'a> {
         // A `for`: an array made by `from_fn` would be made for all 256 states, and copied whole.
         let mut rows = [[None; 64]; 256];
         'states: for state in 0..self.table.count() {
-            rows[usize::from(state)] = self.row(state);
+            self.fill_row(state, &mut rows[usize::from(state)]);
         }
         rows
     }
 
-    // The steps of one state. Its chain goes by record numbers, as the format has it.
-    fn row(&self, state: u16) -> Row
-        ensures { RowRead self.now.table.bytes.now state result }
+    // Writes the steps of one state into its row, which has none yet. The chain goes by record
+    // numbers, as the format has it.
+    fn fill_row(&self, state: u16, row: &mut Row)
+        requires { RowEmpty row.old }
+        ensures { RowRead self.now.table.bytes.now state row.new }
     {
-        let mut row = [None; 64];
         let mut at = self.table.head(state);
         'chain: while let Some(number) = at {
             let record = self.table.record_at(number);
             row[usize::from(record.event)] = Some(record.target as u8);
             at = record.next;
         }
-        row
     }
 }

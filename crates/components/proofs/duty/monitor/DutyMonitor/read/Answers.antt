@@ -12,8 +12,8 @@ read c =
     λ e h. let w = c.map-acts.ensures.items.at e 0 None h in search rules in
     meant c.args.bytes.now c.in_ok-users.users entries c.in_ok-users.ensures.value acts c.map-acts.ensures.items.long named
 
-pub invariant_of-result-clause-known : goal.invariant_of-result-clause-known
-invariant_of-result-clause-known c = (read (goal.at.invariant_of-result-clause-known c).After-map-acts).known
-
 pub returns : goal.returns
 returns c = let m = read (goal.at.returns c).After-map-acts in record { checked = m.sound; means = m.means; runs = m.runs }
+
+pub invariant_of-result-clause-known : goal.invariant_of-result-clause-known
+invariant_of-result-clause-known c = (read (goal.at.invariant_of-result-clause-known c).After-map-acts).known

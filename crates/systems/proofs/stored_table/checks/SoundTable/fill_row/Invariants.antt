@@ -2,7 +2,7 @@ use Rattle.std.proofs.Common.{◌≡◌, ℕ, length}
 use Rattle.systems.specs.StoredTable.{chain_begin}
 use Rattle.systems.specs.TableChecks.{Linked}
 use Rattle.systems.proofs.Chains.{Walked, left}
-use Rattle.systems.proofs.stored_table.checks.SoundTable.row.Given as goal
+use Rattle.systems.proofs.stored_table.checks.SoundTable.fill_row.Given as goal
 
 abbrev pub invariant-chain : goal.invariant-chain
 invariant-chain l =

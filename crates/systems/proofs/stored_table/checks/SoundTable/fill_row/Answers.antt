@@ -1,14 +1,14 @@
-use Rattle.std.proofs.Common.{ℕ, length-set, refl, sym, subst, arith, rules}
+use Rattle.std.proofs.Common.{ℕ, length-set, sym, subst, arith, rules}
 use Rattle.systems.specs.StoredTable.{chain_begin, next_of}
 use Rattle.systems.proofs.Chains.{Walked, walk_none, walk_more, begin_most, row_read}
-use Rattle.systems.proofs.stored_table.checks.SoundTable.row.Goals as goal
+use Rattle.systems.proofs.stored_table.checks.SoundTable.fill_row.Goals as goal
 
 pub chain-init : goal.chain-init
 chain-init c =
     let t = c.args.self.now in
     let bs = t.table.bytes.now in
     let b = chain_begin bs c.args.state in
-    (refl, (b, c.head-at.ensures, walk_none bs b (begin_most bs t.sound c.args.state)))
+    (omega (arith, c.told-row), (b, c.head-at.ensures, walk_none bs b _ (begin_most bs t.sound c.args.state) c.requires))
 
 pub chain-preserved : goal.chain-preserved
 chain-preserved c =
