@@ -15,7 +15,7 @@ pub(crate) fn power_of_3(exponent: u8) -> u8
     ensures least { 1 ≤ result }
     ensures most { result ≤ 243 }
 {
-    // Not `pow`, whose loop would run again for each question that a monitor is asked.
+    // Not `pow`, whose loop would run whenever a monitor is asked for its count or a step.
     match exponent {
         0 => 1,
         1 => 3,
