@@ -1,5 +1,5 @@
 -- What can be wrong with a table's bytes: each fault's number, place and condition.
-use Rattle.std.specs.Prelude.{◌≡◌, ℕ, ◌+◌, ◌*◌, ◌<◌, ◌≤◌, ◌≢◌, ◌⊎◌, List, length, Result}
+use Rattle.std.specs.Prelude.{◌≡◌, ℕ, ◌+◌, ◌*◌, ◌<◌, ◌≤◌, ◌≢◌, ◌⊎◌, List, length, Result, MatchResult}
 use Rattle.systems.specs.Faults.{Before, First, Checked, TakenUp}
 use Rattle.systems.specs.Machine.{Machine}
 use Rattle.systems.specs.StoredTable.{count_of, first_of, records_of, role_byte, head_of, event_of, target_of, next_of, Means}
@@ -67,6 +67,10 @@ TableBefore = Before table_number table_place
 
 abbrev pub FirstTableFault : List ℕ → TableFault → Type 0
 FirstTableFault bs = First (TableFaulty bs) TableBefore
+
+-- What parsing a table gives: a view of just these bytes, or their first fault. (That a view has no fault left stands in its own type.)
+abbrev pub TableParsed : {T : Type 0} → (T → List ℕ) → List ℕ → Result T TableFault → Type 0
+TableParsed bytes_of bs r = MatchResult r (λ t. bytes_of t ≡ bs) (FirstTableFault bs)
 
 -- what the check of a table answers
 abbrev pub TableChecked : List ℕ → Result (Unit {0}) TableFault → Type 0

@@ -1,6 +1,6 @@
 // The checks of a table after its counts, in their order.
-ghost use Rattle.std.specs.Prelude.{◌≡◌, MatchResult, OnOk};
-ghost use Rattle.systems.specs.TableFaults.{Numbers, TableChecked, FirstTableFault};
+ghost use Rattle.std.specs.Prelude.{OnOk};
+ghost use Rattle.systems.specs.TableFaults.{Numbers, TableChecked, TableParsed};
 ghost use Rattle.systems.specs.TableChecks.{RolesKnown, HeadsKnown, Framed, Sound, Passes, RecordPasses, RecordsPass};
 
 use crate::stored_table::fault::{RecordFault, TableFault};
@@ -17,7 +17,7 @@ pub struct SoundTable<'a> {
 impl<'a> SoundTable<'a> {
     // The table of the bytes, or their first fault.
     pub fn parse(bytes: &'a [u8]) -> Result<SoundTable<'a>, TableFault>
-        ensures { MatchResult result (λ sound. sound.table.bytes.now ≡ bytes.now) (FirstTableFault bytes.now) }
+        ensures { TableParsed (λ sound. sound.table.bytes.now) bytes.now result }
     {
         let table = Table::parse(bytes)?;
         table.check_roles()?;

@@ -1,7 +1,7 @@
 // The fields of a table's bytes.
-ghost use Rattle.std.specs.Prelude.{◌≡◌, ℕ, ◌+◌, ◌<◌, length, MatchResult, slice_index};
+ghost use Rattle.std.specs.Prelude.{◌≡◌, ℕ, ◌+◌, ◌<◌, length, slice_index};
 ghost use Rattle.systems.specs.StoredTable.{word, count_of, first_of, records_of, role_byte, chain_begin};
-ghost use Rattle.systems.specs.TableFaults.{Numbers, FirstTableFault};
+ghost use Rattle.systems.specs.TableFaults.{Numbers, TableParsed};
 ghost use Rattle.systems.specs.TableChecks.{Sized, Linked, RecordFound, FieldsOf};
 
 use crate::stored_table::fault::TableFault;
@@ -40,7 +40,7 @@ pub(crate) struct Record {
 impl<'a> Table<'a> {
     // The table of the bytes, or the first fault of their counts.
     pub(crate) fn parse(bytes: &'a [u8]) -> Result<Table<'a>, TableFault>
-        ensures { MatchResult result (λ table. table.bytes.now ≡ bytes.now) (FirstTableFault bytes.now) }
+        ensures { TableParsed (λ table. table.bytes.now) bytes.now result }
     {
         if bytes.len() < FIXED_PART {
             return Err(TableFault::Short);
